@@ -60,12 +60,13 @@ units = $(DESTDIR)$(PREFIX)/lib/systemd/system
 users = $(DESTDIR)$(PREFIX)/lib/sysusers.d
 folders = $(DESTDIR)$(PREFIX)/lib/tmpfiles.d
 
-# The tools, of tools/ and of lab/; a tool NAME is run as savi-NAME. Of the second implementation the parts that only checks
-# and replays read stay here.
+# The tools, of tools/ and of lab/; a tool NAME is run as savi-NAME. They are laid out as here, with what they read by. Of
+# the second implementation, and of what the tools share, the parts that only checks and replays read stay here.
 TOOLS = $(notdir $(wildcard $(addprefix tools/,plan plan-from-learn journal-table journal-picture tell-journal panel ctl journal-keep)))
-PACKAGES = $(notdir $(wildcard tools/switch_reading tools/switch_panel))
-KEPT = worked%.py checking.py conf_runs.py core_runs.py crate_list.py failing_calls.py learn.py line_runs.py live.py load.py \
-	making.py plan_cases.py random_learn.py serving.py session.py toml_cases.py
+PACKAGES = reading tools/tool_parts tools/switch_panel
+KEPT = $(addprefix reading/,checking.py conf_runs.py core_runs.py failing_calls.py learn.py line_runs.py live.py load.py \
+	making.py pcapng.py session.py) \
+	$(addprefix tools/tool_parts/,crate_list.py plan_cases.py random_learn.py serving.py toml_cases.py)
 UNITS = $(notdir $(wildcard packaging/*.service packaging/*.socket packaging/*.target packaging/*.timer packaging/*.path))
 PAGES = $(notdir $(wildcard docs/*.1 docs/*.5 docs/*.8))
 # Tools whose manual page has another name.
@@ -79,12 +80,10 @@ install:
 	install -d "$(bin)" "$(lib)" "$(doc)" "$(units)" "$(users)" "$(man)/man1" "$(man)/man5" "$(man)/man8"
 	install -m 755 $(if $(UNPROVED),"$(UNPROVED)","$(PROGRAM)") "$(bin)/savi_switch"
 	install -m 644 build/stamp VERSION "$(lib)"
-	install -m 755 $(TOOLS:%=tools/%) lab/shim "$(lib)"
-	for package in $(PACKAGES); do install -d "$(lib)/$$package" || exit 1; done
-	install -m 644 $(filter-out $(KEPT:%=tools/switch_reading/%),$(wildcard tools/switch_reading/*.py)) \
-		tools/switch_reading/picture.html "$(lib)/switch_reading"
-	$(if $(wildcard tools/switch_panel),install -m 644 $(wildcard tools/switch_panel/*.py) "$(lib)/switch_panel")
-	for tool in $(TOOLS) shim; do ln -sf "../lib/savi_switch/$$tool" "$(bin)/savi-$$tool" || exit 1; done
+	$(foreach package,$(PACKAGES),install -d "$(lib)/$(package)" && \
+		install -m 644 $(filter-out $(KEPT),$(wildcard $(package)/*.py $(package)/*.html)) "$(lib)/$(package)" &&) true
+	install -m 755 $(TOOLS:%=tools/%) lab/shim "$(lib)/tools"
+	for tool in $(TOOLS) shim; do ln -sf "../lib/savi_switch/tools/$$tool" "$(bin)/savi-$$tool" || exit 1; done
 	tools/install-documents "$(doc)"
 	$(foreach unit,$(UNITS),$(call put,packaging/$(unit),$(units)/$(unit)) &&) true
 	$(foreach page,$(PAGES),$(call put,docs/$(page),$(man)/man$(subst .,,$(suffix $(page)))/$(page)) &&) true

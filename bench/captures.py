@@ -17,7 +17,7 @@ import time
 sys.dont_write_bytecode = True
 sys.path.append(os.path.join(os.path.dirname(os.path.realpath(__file__)), "..", "tools"))
 
-from switch_reading import options
+from tool_parts import options
 
 FRAMES = 200_000
 HEADER = bytes.fromhex("d4c3b2a1020004000000000000000000ffff000001000000")

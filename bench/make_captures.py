@@ -12,7 +12,7 @@ import sys
 sys.dont_write_bytecode = True
 sys.path.append(os.path.join(os.path.dirname(os.path.realpath(__file__)), "..", "tools"))
 
-from switch_reading import options
+from tool_parts import options
 
 FRAMES = 120_000
 

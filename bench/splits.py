@@ -20,7 +20,7 @@ sys.dont_write_bytecode = True
 sys.path.append(os.path.join(os.path.dirname(os.path.realpath(__file__)), "..", "tools"))
 
 from captures import frame
-from switch_reading import options
+from tool_parts import options
 
 FRAMES = 1_000_000
 

@@ -3,8 +3,8 @@ import os
 import time
 from dataclasses import dataclass, field
 
-from switch_reading import making
-from switch_reading.plan import address_text, mac_text, read_address
+from reading import making
+from reading.plan import address_text, mac_text, read_address
 
 from . import frames, leases
 from .namespaces import PATIENCE, Late, wait_until

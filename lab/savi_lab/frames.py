@@ -1,7 +1,7 @@
-"""Frames of the attacks that tools/switch_reading/making.py hasn't. A MAC address and an address are numbers."""
-from switch_reading import making
-from switch_reading.frame import ADVERTISEMENT, FRAGMENT, ICMPV6, REDIRECT, ROUTER_ADVERTISEMENT, SOLICITATION
-from switch_reading.making import ALL_NODES, octets
+"""Frames of the attacks that reading/making.py hasn't. A MAC address and an address are numbers."""
+from reading import making
+from reading.frame import ADVERTISEMENT, FRAGMENT, ICMPV6, REDIRECT, ROUTER_ADVERTISEMENT, SOLICITATION
+from reading.making import ALL_NODES, octets
 
 DESTINATION_OPTIONS = 60
 ETHERTYPE_IPV6, ETHERTYPE_VLAN = 0x86DD, 0x8100

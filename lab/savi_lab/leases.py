@@ -4,9 +4,9 @@ import select
 import socket
 import time
 
-from switch_reading import making
-from switch_reading.making import octets
-from switch_reading.plan import address_text, read_address
+from reading import making
+from reading.making import octets
+from reading.plan import address_text, read_address
 
 SOLICIT, ADVERTISE, REQUEST, REPLY = 1, 2, 3, 7
 CLIENT_ID, SERVER_ID, IA_NA, IA_ADDRESS, PREFERENCE, ELAPSED_TIME, DNS_SERVERS = 1, 2, 3, 5, 7, 8, 23

@@ -6,7 +6,7 @@ import shlex
 import subprocess
 import sys
 
-from switch_reading.plan import address_text
+from reading.plan import address_text
 
 from . import namespaces
 from .namespaces import PATIENCE, LabFault, Late, Namespace, call, wait_until

@@ -6,8 +6,8 @@ import socket
 import struct
 import time
 
-from switch_reading import making
-from switch_reading.plan import address_text, mac_text, read_address
+from reading import making
+from reading.plan import address_text, mac_text, read_address
 
 from .leases import SERVER_PORT
 from .namespaces import PATIENCE, Late, Namespace, wait_until

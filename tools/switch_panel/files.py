@@ -6,9 +6,9 @@ import re
 import tomllib
 from dataclasses import dataclass
 
-from switch_reading.explaining import explain
-from switch_reading.names import port_names
-from switch_reading.plan import LONGEST, Plan, read_plan
+from reading.plan import LONGEST, Plan, read_plan
+from tool_parts.explaining import explain
+from tool_parts.names import port_names
 
 # The longest path of a Unix socket (unix(7): sun_path has 108 octets, of which one ends it).
 LONGEST_PATH = 107

@@ -9,7 +9,7 @@ import subprocess
 import threading
 import time
 
-from switch_reading.kept import HEAD, PACKERS, Part, parts_of, run_name
+from tool_parts.kept import HEAD, PACKERS, Part, parts_of, run_name
 
 # The longest line (docs/FORMATS.md), with its line feed. What is longer is kept as it comes.
 LONGEST = 3401

@@ -9,7 +9,7 @@ import stat
 import sys
 import time
 
-from switch_reading.kept import is_unkept_pipe
+from tool_parts.kept import is_unkept_pipe
 
 from .files import INTERFACES, Fault
 from .limits import descriptors, lacking_descriptors, threads

@@ -1,5 +1,5 @@
 """The tables of `savi-ctl`."""
-from switch_reading import columns
+from tool_parts import columns
 
 # What becomes of a binding when its time is over, by its state.
 BECOMES = {"bound": "ends", "tentative": "valid", "valid": "asked", "testing-lt": "gone", "testing-vp": "port {}'s"}

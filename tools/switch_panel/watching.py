@@ -7,7 +7,7 @@ import collections
 import os
 import stat
 
-from switch_reading import kept
+from tool_parts import kept
 
 # The first octets.
 HEAD = b"savi-journal "

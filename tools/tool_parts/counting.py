@@ -4,11 +4,12 @@ those with the most frames are named, and the others counted together."""
 import datetime
 from dataclasses import dataclass, field
 
-from .commands import RULES
+from reading.commands import RULES
+from reading.frame import ETHERTYPE_IPV6, number
+from reading.journal import Fault, Journal
+from reading.plan import Plan, address_text, mac_text
+
 from .following import LEASED, STATIC, TENTATIVE, TESTED, VALID, Follower
-from .frame import ETHERTYPE_IPV6, number
-from .journal import Fault, Journal
-from .plan import Plan, address_text, mac_text
 
 # How many sources of one port and rule are named. Twice as many are kept before the others are put together.
 SOURCES = 2048

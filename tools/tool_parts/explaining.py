@@ -1,15 +1,15 @@
 """The faults of a configuration in words: each that the program would give, by its number, with where it stands and what to
-write instead (docs/CONFIGURATION.md, What is refused). `plan.py` beside this file says which one the program gives."""
+write instead (docs/CONFIGURATION.md, What is refused). reading/plan.py says which one the program gives."""
 import difflib
 import re
 from dataclasses import dataclass
 
-from . import toml_text
-from .plan import (
+from reading import toml_text
+from reading.plan import (
     DEFAULTS, LINK_LOCAL, LONGEST, METHODS, MULTICAST, PORT_KEYS, PREFIX_KEYS, ROLES, TABLES, TEXT, TOP_KEYS, WHOLE, is_of_kind,
     overlap, prefix_text, read_address, read_mac, read_prefix, tables,
 )
-from .toml_text import Table, TomlFault, read_toml
+from reading.toml_text import Table, TomlFault, read_toml
 
 REQUIRED = {"top": ("mac", "journal", "port"), "port": ("number", "role", "input", "output"), "prefix": ("prefix", "method")}
 KEYS = {"top": TOP_KEYS, "port": PORT_KEYS, "prefix": PREFIX_KEYS}

@@ -1,9 +1,9 @@
 """What the scenes with control come to, worked out by hand from the rules of docs/RULES.md, docs/TROUBLE.md and
 docs/COMMANDS.md. Ports 1, 2, 3 are hosts, 4 is trusted and 5 a server, and 2001:db8:1::/64 is fcfs, 2001:db8:2::/64 dhcp and
 2001:db8:3::/64 mixed, unless a scene says otherwise."""
-from .commands import RULES
-from .worked_scenes import OPENED, SILENT, judged
-from .worked_scenes import WORKED as WITHOUT_COMMANDS
+from ..commands import RULES
+from .scenes import OPENED, SILENT, judged
+from .scenes import WORKED as WITHOUT_COMMANDS
 
 
 def ports(*rows, down=()):

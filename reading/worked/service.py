@@ -1,9 +1,9 @@
 """What docs/TROUBLE.md says of things that operators meet in service, as histories that were worked out by hand. Ports 1,
 2, 3 are hosts, 4 is trusted and 5 a server."""
-from . import making
-from .making import advertisement, claim, data, router_advertisement, router_solicitation, to_client, to_server
-from .worked import A11, A22, A33, LEASED, M1, M2, M3, CLAIM_11, REPLY, REQUEST, ROUTER_MAC
-from .worked import a, judged, plan_of, replay, replies, sent
+from .. import making
+from ..making import advertisement, claim, data, router_advertisement, router_solicitation, to_client, to_server
+from .histories import A11, A22, A33, LEASED, M1, M2, M3, CLAIM_11, REPLY, REQUEST, ROUTER_MAC
+from .histories import a, judged, plan_of, replay, replies, sent
 
 ROUTER = making.ROUTER
 RIVAL, HOLDER = data(M2, A11), advertisement(M1, A11)

@@ -4,9 +4,10 @@ import os
 import stat
 from dataclasses import dataclass
 
+from reading.toml_text import Items
+
 from .explaining import Finding, shown
 from .kept import is_unkept_pipe
-from .toml_text import Items
 
 # The longest path of a socket, in octets (sun_path of unix(7), and its end).
 PATH_MOST = 107

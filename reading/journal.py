@@ -1,11 +1,8 @@
 """Journals (docs/FORMATS.md, The journal): the plan of one, and its entries one by one, of all segments."""
 import functools
-import io
-import os
 import re
 from dataclasses import dataclass
 
-from . import kept
 from .commands import RULES
 from .plan import Plan, PortPlan, key_fault, list_fault, read_address, read_mac, read_prefix
 
@@ -299,13 +296,5 @@ class Journal:
 
 
 def lines_of(file):
-    """The lines of a file that was opened by `open_journal`, none of them longer than can be told."""
+    """The lines of a file of which each octet is a character, none of them longer than can be told."""
     return iter(lambda: file.readline(LONGEST + 2), "")
-
-
-def open_journal(name):
-    """A journal in a file, or the last run in a folder of savi-journal-keep. Each octet is a character, so that any file can
-    be read up to what is at fault in it."""
-    if not os.path.isdir(name):
-        return open(name, encoding="latin-1", newline="\n")
-    return io.TextIOWrapper(io.BufferedReader(kept.LastRun(name), kept.PIECE), encoding="latin-1", newline="\n")

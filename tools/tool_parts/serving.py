@@ -9,9 +9,12 @@ import subprocess
 import tempfile
 import time
 
-from . import making
+from reading import making
 
 SECONDS = 20
+
+# The status of a run whose history was full.
+FULL = 8
 
 # A claim is valid after so many ms.
 TEST_MS = 1000
@@ -181,7 +184,7 @@ class Serving:
         summary = dict(zip(words[::2], map(int, words[1::2])))
         with open("journal.txt", encoding="ascii") as journal:
             text = journal.read()
-        wanted = f"bad line {text.count(chr(10)) + 1}\n" if status == 8 else f"good: {summary['entries']} entries\n"
+        wanted = f"bad line {text.count(chr(10)) + 1}\n" if status == FULL else f"good: {summary['entries']} entries\n"
         assert checked.stdout == wanted, (checked.stdout, checked.stderr)
         return summary, text
 

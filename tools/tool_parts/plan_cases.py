@@ -2,7 +2,8 @@
 warning. A case is a change of the plan below."""
 import struct
 
-from . import toml_text
+from reading import toml_text
+
 from .uses import PATH_MOST
 
 # The plan, of 18 lines.

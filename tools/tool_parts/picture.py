@@ -9,9 +9,10 @@ import json
 import os
 import re
 
+from reading.commands import RULES
+from reading.plan import address_text
+
 from . import counting, telling
-from .commands import RULES
-from .plan import address_text
 
 # How many refused frames of each port and rule a page has one by one, and how many of these in words. Behind that they are
 # counted in bins of time, of which there are so many.

@@ -1,15 +1,15 @@
-"""Who has which address when, from the entries of a journal. It reads the frames, and goes by states.py beside this file; of
+"""Who has which address when, from the entries of a journal. It reads the frames, and goes by reading/states.py; of
 the verdicts that stand in the journal it only notes where it would have judged otherwise."""
 import collections
 import heapq
 from typing import NamedTuple
 
-from . import commands
-from .frame import read_frame
-from .journal import read_set
-from .plan import read_address
-from .states import NONE, TENTATIVE, TEST_CLAIM, TEST_LIFE, VALID, Address, FirstCome
-from .switch import Switch, verdict_text
+from reading import commands
+from reading.frame import read_frame
+from reading.journal import read_set
+from reading.plan import read_address
+from reading.states import NONE, TENTATIVE, TEST_CLAIM, TEST_LIFE, VALID, Address, FirstCome
+from reading.switch import Switch, verdict_text
 
 TESTED, LEASED, STATIC = "tested", "leased", "static"
 KINDS = {TENTATIVE: TENTATIVE, VALID: VALID, TEST_LIFE: TESTED, TEST_CLAIM: TESTED}

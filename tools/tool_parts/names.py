@@ -2,8 +2,6 @@
 comment that ends in the line above the header; up to its first full stop or comma."""
 import re
 
-from .plan import LONGEST as OCTETS_MOST
-
 # A name that is longer is cut.
 LONGEST = 40
 

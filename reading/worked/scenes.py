@@ -2,10 +2,10 @@
 docs/RULES.md and docs/TROUBLE.md. Ports 1, 2, 3 are hosts, 4 is trusted and 5 a server, and 2001:db8:1::/64 is fcfs,
 2001:db8:2::/64 dhcp and 2001:db8:3::/64 mixed, unless a scene says otherwise. How long an address is bound shows in the
 moments of the probes that ask for it then, when a frame comes long after."""
-from . import making
-from .making import advertisement, claim, data, to_server
-from .worked import A11, A12, A22, ADVERTS, CUT, G11, G22, JUDGED, LATER, LEASED, M1, M2, M3, MIXED, NAMED, REPLY, REQUEST
-from .worked import ROUTER_MAC, ask
+from .. import making
+from ..making import advertisement, claim, data, to_server
+from .histories import A11, A12, A22, ADVERTS, CUT, G11, G22, JUDGED, LATER, LEASED, M1, M2, M3, MIXED, NAMED, REPLY, REQUEST
+from .histories import ROUTER_MAC, ask
 
 SWITCH_MAC = 0x020000000001
 SERVER = making.option(2, making.identity(M2))

@@ -1,10 +1,10 @@
 """Runs with control whose whole results were worked out by hand: journals, ends and statuses, and which lines an input of
 control has. Ports 1, 2, 3 are hosts, 4 is trusted and 5 a server, unless a run says otherwise."""
-from . import commands
-from .making import claim, data
-from .worked import A11, A12, A22, ADVERTS, LEASED, M1, M2, REPLY, REQUEST, TWO_PORTS
-from .worked import ask, judged, plan_of, replay, replies, sent
-from .session import CONTROL
+from .. import commands
+from ..making import claim, data
+from ..session import CONTROL
+from .histories import A11, A12, A22, ADVERTS, LEASED, M1, M2, REPLY, REQUEST, TWO_PORTS
+from .histories import ask, judged, plan_of, replay, replies, sent
 
 HEADER = "d4c3b2a1020004000000000000000000ffff000001000000"
 

@@ -1,9 +1,9 @@
 """Histories that were worked out by hand from the rules of docs/RULES.md and docs/TROUBLE.md, and a load whose sums a
 further implementation gave. Ports 1, 2, 3 are hosts, 4 is trusted and 5 a server, unless a history says otherwise."""
-from . import capture, commands, making
-from .making import claim, data
-from .plan import read_address, read_plan
-from .session import CONTROL, Replay
+from .. import capture, commands, making
+from ..making import claim, data
+from ..plan import read_address, read_plan
+from ..session import CONTROL, Replay
 
 ROLES = ("host", "host", "host", "trusted", "server")
 TWO_PORTS = ("host", "trusted")

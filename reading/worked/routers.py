@@ -1,10 +1,10 @@
 """What is learned of routers from small captures, worked out by hand: port 1 is a host's and port 2 trusted, with a window of
 500 ms."""
-from . import making
-from .capture import Arrival
-from .learn import Learned
-from .plan import read_address
-from .worked import TWO_PORTS, plan_of
+from .. import making
+from ..capture import Arrival
+from ..learn import Learned
+from ..plan import read_address
+from .histories import TWO_PORTS, plan_of
 
 MAC, ROUTER = 0x020000000022, read_address("fe80::22")
 LINK, OTHER = "2001:db8:1::", "2001:db8:9::"

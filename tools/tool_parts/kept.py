@@ -175,3 +175,11 @@ class LastRun(io.RawIOBase):
         room[:count] = self.left[:count]
         self.left = self.left[count:]
         return count
+
+
+def open_journal(name):
+    """A journal in a file, or the last run in a folder of savi-journal-keep. Each octet is a character, so that any file can
+    be read up to what is at fault in it."""
+    if not os.path.isdir(name):
+        return open(name, encoding="latin-1", newline="\n")
+    return io.TextIOWrapper(io.BufferedReader(LastRun(name), PIECE), encoding="latin-1", newline="\n")

@@ -1,9 +1,9 @@
 """Frames in words."""
-from .dhcp import RELAY_FORW, RELAY_REPL
-from .frame import ADVERTISEMENT, DHCP_CLIENT, DHCP_SERVER, REDIRECT, ROUTER_ADVERTISEMENT, ROUTER_SOLICITATION
-from .frame import SOLICITATION, discovery_fault, number, read_frame
-from .plan import address_text, mac_text
-from .switch import set_text
+from reading.dhcp import RELAY_FORW, RELAY_REPL
+from reading.frame import ADVERTISEMENT, DHCP_CLIENT, DHCP_SERVER, REDIRECT, ROUTER_ADVERTISEMENT, ROUTER_SOLICITATION
+from reading.frame import SOLICITATION, discovery_fault, number, read_frame
+from reading.plan import address_text, mac_text
+from reading.switch import set_text
 
 ICMP_NAMES = {
     1: "destination unreachable", 128: "echo request", 129: "echo reply", 131: "MLD report", 132: "MLD done",

@@ -27,15 +27,12 @@ def stop(words, status=1):
 
 
 def version():
-    """The version, which stands beside the tools where they are installed, and else at the top of the sources."""
-    here = os.path.dirname(os.path.realpath(__file__))
-    for name in (f"{here}/../VERSION", f"{here}/../../VERSION"):
-        try:
-            with open(name, encoding="ascii") as file:
-                return file.read().strip()
-        except OSError:
-            pass
-    return "unknown"
+    """The version, which stands at the top of the sources, and of what is installed."""
+    try:
+        with open(f"{os.path.dirname(os.path.realpath(__file__))}/../../VERSION", encoding="ascii") as file:
+            return file.read().strip()
+    except OSError:
+        return "unknown"
 
 
 def whole(least, most=None):

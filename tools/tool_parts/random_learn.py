@@ -5,9 +5,9 @@ choice of n takes it modulo n. Ports 1, 3 and 5 are hosts', 2 is trusted, 4 a se
 from 80 routers with 40 prefixes, so that some find no place; else from few. Stamps go on by 0 to 700 ms, and now and then back."""
 import struct
 
-from . import capture, making
-from .learn import Learned
-from .plan import read_address, read_plan
+from reading import capture, making
+from reading.learn import Learned
+from reading.plan import read_address, read_plan
 
 LINKS = ("2001:db8:1::", "2001:db8:2::", "2001:db8:3::")
 OTHERS = ("2001:db8:9::", "fe80::", "ff02::", "2001:db8:1::1", "fe80:1::", "::")
