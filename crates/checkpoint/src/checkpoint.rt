@@ -122,14 +122,6 @@ impl Checkpoint {
         self.stations.clear();
     }
 
-    /// Makes it the start of a switch again.
-    pub fn clear(&mut self)
-        ensures { self.new ≡ nothing_before self.old.row_room self.old.station_room }
-    {
-        self.begin(0, PortSet::empty(), &Counts::none());
-        self.is_start = true;
-    }
-
     /// Puts the pass of this number, which ended for good, behind the others. There are fewer than 34. O(1).
     pub fn put_ended(&mut self, pass: u32, how: How)
         requires { length self.old.ended < ENDED_MOST }

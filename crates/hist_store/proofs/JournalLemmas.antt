@@ -10,10 +10,14 @@ use Rattle.hist_store.specs.declared.version.Version.{Version}
 use Rattle.hist_store.specs.Rows.{Row}
 use Rattle.hist_store.specs.TextOfLines.{joined, lines_text}
 use Rattle.hist_store.specs.LineTexts.{line_fields, line_text}
-use Rattle.hist_store.specs.JournalTexts.{Segment, first_segment, begin_line, header_lines, entry_lines, journal_end_line, segment_lines, segments_lines, journal_begin_text, journal_end_text, journal_text_of}
+use Rattle.hist_store.specs.JournalTexts.{Segment, begin_line, header_lines, entry_lines, journal_end_line, segment_lines, segments_lines, journal_begin_text, journal_end_text, journal_text_of}
 use Rattle.hist_store.proofs.LineLemmas.{lines_text-append}
 use Rattle.hist_store.proofs.Words.{IsLines, joined_avoids, joined_same, lines_append, parted, word_of, word_decimal}
 use Rattle.hist_store.proofs.FieldWords.{lines_rows}
+
+-- the first segment goes on from nothing
+abbrev pub first_segment : List Row → Segment
+first_segment rows = record { base_lines = []; rows = rows }
 
 abbrev Lines : Type 0
 Lines = List (List (List ℕ))

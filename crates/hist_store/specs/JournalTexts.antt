@@ -109,10 +109,6 @@ pub record Segment : Type 0 where
   pub base_lines : List (List (List ℕ))
   pub rows : List Row
 
--- the first segment goes on from nothing
-abbrev pub first_segment : List Row → Segment
-first_segment rows = record { base_lines = []; rows = rows }
-
 abbrev pub segment_lines : Segment → List (List (List ℕ))
 segment_lines segment = segment.base_lines ++ begin_line ∷ (entry_lines 0 segment.rows ++ journal_end_line (length segment.rows) ∷ [])
 

@@ -5,8 +5,8 @@ use Rattle.std.proofs.lemmas.Bool.{cases_eq, cases_lt}
 use Rattle.std.proofs.lemmas.List.{get_or-set_same, get_or-set_other, get_or_past, set-set, set-get_or, ext_get_or, length-map}
 use Rattle.savi_history.specs.Merges.{merged}
 use Rattle.savi_history.specs.Turns.{Turn, turn_at}
-use Rattle.savi_history.specs.Picks.{first_at, IsLeast}
-use Rattle.savi_history.proofs.Merging.{picked}
+use Rattle.savi_history.specs.Picks.{IsLeast}
+use Rattle.savi_history.proofs.Merging.{first_at, picked}
 use Rattle.savi_segments.proofs.Order.{get_or-map_past}
 use Rattle.savi_segments.proofs.Reaching.{Head, Unread, Known, Done, moment_of, IsRead, AllRead, joined, joined_move}
 

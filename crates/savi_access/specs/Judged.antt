@@ -25,7 +25,7 @@ use Rattle.dhcp_states.specs.Requests.{request_of, refusal, asker}
 use Rattle.savi_access.specs.declared.sent.SentProbe.{SentProbe}
 use Rattle.savi_access.specs.States.{answer_at}
 use Rattle.savi_access.specs.Rules.{AccessRules, AccessBase}
-use Rattle.savi_access.specs.Marks.{Mark, Told, Asked, Met, told, named_for, open_requests}
+use Rattle.savi_access.specs.Marks.{Mark, Told, Asked, Met, told, named_for, event_told, open_requests}
 use Rattle.savi_access.specs.Frames.{dad_target, advertised, is_router_solicitation, is_listener_message, dhcp_to, asking_duid, answered_duid, gives_up}
 
 pub record Judged : Type 0 where
@@ -62,7 +62,7 @@ module _ (r : AccessRules) (base : AccessBase) (vlan : ℕ) (port : Port) (t : �
   answer_to past a event = answer_at r.addresses base.addresses (told past) (named_for r base vlan t past a event)
 
   abbrev pub with_event : ℕ → Ev → List Mark → List Mark
-  with_event a event past = Told (named_for r base vlan t past a event) ∷ past
+  with_event a event past = event_told r base vlan t past a event
 
   -- the event is answered by its row of the state tables: each event of a frame has one with a verdict, and nothing would pass
   -- without

@@ -41,6 +41,10 @@ named_for r base vlan t past a event = record {
   room = room_for r.addresses.per_port (rows_at r.addresses base.addresses (told past) t vlan) event;
 }
 
+-- the marks with that of an event
+abbrev pub event_told : AccessRules → AccessBase → ℕ → ℕ → List Mark → ℕ → Ev → List Mark
+event_told r base vlan t past a event = Told (named_for r base vlan t past a event) ∷ past
+
 -- the moment of the newest mark, or of what came before all of them
 abbrev pub newest_moment : AccessBase → List Mark → ℕ
 newest_moment base [] = base.addresses.moment

@@ -26,7 +26,7 @@ use Rattle.cli_lang.specs.declared.kinds.Command.{Command}
 use Rattle.cli_lang.specs.declared.kinds.Command.TheVariants as orders
 use Rattle.cli_lang.specs.declared.kinds.CmdFault.{CmdFault}
 use Rattle.control_replies.specs.declared.refusal.Refusal.{Refusal}
-use Rattle.savi_access.specs.Marks.{Mark, Told, told, moment_of, newest_moment}
+use Rattle.savi_access.specs.Marks.{Mark, Told, told, event_told, moment_of, newest_moment}
 use Rattle.savi_access.specs.Legal.{AreMarks, HasFront}
 use Rattle.savi_access.specs.Plans.{rules_of, has_port, role_of, method_in}
 use Rattle.savi_access.proofs.States.{told_past, told_before}
@@ -36,7 +36,7 @@ use Rattle.checkpoint.specs.Bases.{Base, access_of}
 use Rattle.savi_history.specs.Limits.{IsWithinLimits}
 use Rattle.savi_history.specs.Vlans.{the_vlan}
 use Rattle.savi_history.specs.Passes.{is_trusted}
-use Rattle.savi_history.specs.Commands.{rows_told, may_hold, static_refusal, clear_refusal, refusal_of, with_mark, ordered_unless, commanded}
+use Rattle.savi_history.specs.Commands.{rows_told, may_hold, static_refusal, clear_refusal, refusal_of, ordered_unless, commanded}
 
 -- what holds where a static address isn't refused
 pub record IsGranted (plan : Plan) (rows : List Row) (a : ℕ) (port : Port) : Type 0 where
@@ -103,7 +103,7 @@ module _ (plan : Plan) (valid : IsValidPlan plan) (base : Base) (within : IsWith
   unchanged = record { legal = right; last = after; front = record { new = []; is = refl; moments = All-nil (λ (m : Mark). moment_of m ≡ t) } }
 
   marked : (a : ℕ) (event : Ev) → IsSome (method_in plan a) → IsLeaseInRange event → IsOfVlan (rules_of plan).addresses the_vlan (port_of event) → IsFixable plan.per_port (rows_told plan (access_of base) marks t) a event
-      → (port : Port) → IsOrdered (with_mark plan (access_of base) t a event marks)
+      → (port : Port) → IsOrdered (event_told (rules_of plan) (access_of base) the_vlan t marks a event)
   marked a event on lease of_vlan fix port = record {
     legal = (told_follows (rules_of plan) (access_of base) within.access the_vlan port t early marks right after a event on lease of_vlan fix, right);
     last = omega arith;

@@ -3,7 +3,12 @@ use Rattle.std.proofs.Common.{◌≡◌, ℕ, suc, zero, ◌<◌, ◌≤◌, Boo
 use Rattle.std.proofs.lemmas.Bool.Decides.{nat_tests}
 use Rattle.std.specs.List.{All}
 use Rattle.savi_history.specs.Merges.{enter, merge, merged}
-use Rattle.savi_history.specs.Picks.{first_at, IsLeast}
+use Rattle.savi_history.specs.Picks.{IsLeast}
+
+-- when the first of these comes, where there is one
+abbrev pub first_at : {A : Type 0} → (A → ℕ) → List A → Option ℕ
+first_at at [] = None
+first_at at (x ∷ xs) = Some (at x)
 
 -- the first of these elements doesn't come before this moment
 abbrev pub NoneBefore : {A : Type 0} → (A → ℕ) → ℕ → List A → Type 0

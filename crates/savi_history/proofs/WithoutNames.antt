@@ -34,7 +34,7 @@ use Rattle.frame_class.specs.ClassOf.{class_of}
 use Rattle.savi_access.specs.declared.sent.SentProbe.{SentProbe}
 use Rattle.savi_access.specs.Probes.{probes_between}
 use Rattle.savi_access.specs.Rules.{AccessRules}
-use Rattle.savi_access.specs.Marks.{Mark, Told, told}
+use Rattle.savi_access.specs.Marks.{Mark, Told, told, event_told}
 use Rattle.savi_access.specs.Judged.{Judged, judged}
 use Rattle.savi_access.specs.Plans.{has_port, role_of, vlan_by, vlan_among, method_in, rules_of}
 use Rattle.savi_history.specs.Vlans.{the_vlan}
@@ -50,7 +50,7 @@ use Rattle.cli_lang.specs.CommandOf.{command_of}
 use Rattle.control_replies.specs.declared.refusal.Refusal.{Refusal}
 use Rattle.control_replies.specs.declared.refusal.Refusal.TheVariants as refusals
 use Rattle.savi_history.specs.ShutPorts.{is_heard_at, shut_by, shut_after, is_shut}
-use Rattle.savi_history.specs.Commands.{rows_told, may_hold, refusal_of, with_mark, ordered_unless, commanded}
+use Rattle.savi_history.specs.Commands.{rows_told, may_hold, refusal_of, ordered_unless, commanded}
 use Rattle.savi_history.specs.Marks.{judged_after, marked, marks}
 use Rattle.savi_history.specs.Judged.{judged_of, verdict_of, long_by, judged_long}
 use Rattle.savi_history.specs.Stations.{known_port}
@@ -174,7 +174,7 @@ module _ (plan : Plan) (base : Base) where
   refusal_kept rows (Ok orders.ShowStations) = refl
   refusal_kept rows (Ok orders.Quit) = refl
 
-  mark_kept : (moment a : ℕ) (event : Ev) (past : List Mark) → with_mark (without_names plan) (access_of base) moment a event past ≡ with_mark plan (access_of base) moment a event past
+  mark_kept : (moment a : ℕ) (event : Ev) (past : List Mark) → event_told (rules_of (without_names plan)) (access_of base) the_vlan moment past a event ≡ event_told (rules_of plan) (access_of base) the_vlan moment past a event
   mark_kept moment a event past =
       ap (λ (rows : List State). Told (record { vlan = the_vlan; address = a; moment = moment; event = event; room = room_for plan.per_port rows event }) ∷ past) (table_kept past moment)
 

@@ -1,5 +1,5 @@
 -- What an operator's commands come to: why one is refused, and what it makes of an address, by what was told before it.
-use Rattle.std.specs.Prelude.{ℕ, ◌||◌, not, Bool, if◌then◌else◌, is_some, List, ◌∷◌, Option, Some, None, Result, Ok, Err}
+use Rattle.std.specs.Prelude.{ℕ, ◌||◌, not, Bool, if◌then◌else◌, is_some, List, Option, Some, None, Result, Ok, Err}
 use Rattle.savi_kinds.specs.declared.plan.Plan.{Plan}
 use Rattle.savi_kinds.specs.declared.port.Port.{Port}
 use Rattle.savi_kinds.specs.Ports.{number_of}
@@ -17,7 +17,7 @@ use Rattle.cli_lang.specs.declared.kinds.CmdFault.TheVariants as faults
 use Rattle.control_replies.specs.declared.refusal.Refusal.{Refusal}
 use Rattle.control_replies.specs.declared.refusal.Refusal.TheVariants as refusals
 use Rattle.savi_access.specs.Rules.{AccessBase}
-use Rattle.savi_access.specs.Marks.{Mark, Told, told, named_for}
+use Rattle.savi_access.specs.Marks.{Mark, told, event_told}
 use Rattle.savi_access.specs.Plans.{rules_of, has_port, role_of, method_in}
 use Rattle.savi_history.specs.Vlans.{the_vlan}
 use Rattle.savi_history.specs.Passes.{is_trusted}
@@ -66,15 +66,11 @@ refusal_of plan rows (Ok orders.ShowCounters) = None
 refusal_of plan rows (Ok orders.ShowStations) = None
 refusal_of plan rows (Ok orders.Quit) = None
 
--- the marks with that of an event on an address at this moment
-abbrev pub with_mark : Plan → AccessBase → ℕ → ℕ → Ev → List Mark → List Mark
-with_mark plan base moment a event marks = Told (named_for (rules_of plan) base the_vlan moment marks a event) ∷ marks
-
 -- the marks behind a command that isn't refused: `static` fixes its address to its port, and `clear` leaves no state
 abbrev pub ordered : Plan → AccessBase → ℕ → Result Command CmdFault → List Mark → List Mark
 ordered plan base moment (Err fault) marks = marks
-ordered plan base moment (Ok (orders.Static address port)) marks = with_mark plan base moment address.0 (Fix port) marks
-ordered plan base moment (Ok (orders.Clear address)) marks = with_mark plan base moment address.0 Clear marks
+ordered plan base moment (Ok (orders.Static address port)) marks = event_told (rules_of plan) base the_vlan moment marks address.0 (Fix port)
+ordered plan base moment (Ok (orders.Clear address)) marks = event_told (rules_of plan) base the_vlan moment marks address.0 Clear
 ordered plan base moment (Ok (orders.Shut port)) marks = marks
 ordered plan base moment (Ok (orders.Reopen port)) marks = marks
 ordered plan base moment (Ok orders.ShowBindings) marks = marks

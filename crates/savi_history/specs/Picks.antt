@@ -1,11 +1,6 @@
 -- Which of several lists, whose elements come at moments, has the next one.
 use Rattle.std.specs.Prelude.{◌≡◌, ℕ, ◌<◌, ◌≤◌, List, [], ◌∷◌, length, get_or, Option, Some, None, IfSome, All}
 
--- when the first of these comes, where there is one
-abbrev pub first_at : {A : Type 0} → (A → ℕ) → List A → Option ℕ
-first_at at [] = None
-first_at at (x ∷ xs) = Some (at x)
-
 -- of the numbers that are there the one at this place is the least, and of equals the earliest
 pub record IsLeast (numbers : List (Option ℕ)) (place : ℕ) : Type 0 where
   pub inside : place < length numbers

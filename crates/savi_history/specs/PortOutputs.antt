@@ -1,7 +1,6 @@
 -- What a history says of the output of one port, by the port's number: how it ended, and what a sink that took it has taken.
 use Rattle.std.specs.Prelude.{◌≡◌, ℕ, ◌<◌, ◌==◌, if◌then◌else◌, List, [], ◌∷◌, ◌++◌, length, map, take, get_or, Option, Some, None}
 use Rattle.std.specs.List.{concat}
-use Rattle.savi_kinds.specs.declared.plan.Plan.{Plan}
 use Rattle.savi_kinds.specs.declared.entry.Act.{Act}
 use Rattle.savi_kinds.specs.declared.entry.Act.TheVariants as acts
 use Rattle.savi_kinds.specs.declared.entry.Who.{Who}
@@ -10,11 +9,9 @@ use Rattle.savi_kinds.specs.declared.entry.How.{How}
 use Rattle.savi_kinds.specs.declared.entry.How.TheVariants as hows
 use Rattle.savi_kinds.specs.Ports.{number_of}
 use Rattle.savi_ends.specs.Octets.{behind, IsFront}
-use Rattle.pcap_io.specs.Captures.{header_text, record_text, capture_text}
+use Rattle.pcap_io.specs.Captures.{header_text, record_text}
 use Rattle.hist_store.specs.Rows.{Row}
-use Rattle.checkpoint.specs.Bases.{Base}
-use Rattle.savi_history.specs.Queues.{Item, sent}
-use Rattle.savi_history.specs.Outputs.{sent_items}
+use Rattle.savi_history.specs.Queues.{Item}
 
 -- how the output of a port has ended behind the end of a pass, by how it had ended before
 abbrev pub output_ended_by : ℕ → Who → How → Option How → Option How
@@ -46,19 +43,6 @@ TookPieces before after pieces None = after ≡ behind before (concat pieces)
 TookPieces before after pieces (Some whole) =
     (whole < length pieces) × (front : List ℕ) × IsFront front (get_or pieces whole []) × (after ≡ behind before (concat (take whole pieces) ++ front))
 
--- the capture of what the drains of a port before its last one took; nothing where there was none
-abbrev pub text_before_last : Plan → Base → ℕ → List Row → Act → List ℕ → List ℕ
-text_before_last plan base port past (acts.Frame p stamp at len) before = before
-text_before_last plan base port past (acts.Long p stamp len) before = before
-text_before_last plan base port past (acts.Tick stamp) before = before
-text_before_last plan base port past (acts.Command stamp at len) before = before
-text_before_last plan base port past (acts.Drain p count) before = if number_of p == port then capture_text (sent_items (sent plan base port past)) else before
-text_before_last plan base port past (acts.End who how) before = before
-
-abbrev pub text_before_last_drain : Plan → Base → ℕ → List Row → List ℕ
-text_before_last_drain plan base port [] = []
-text_before_last_drain plan base port (r ∷ past) = text_before_last plan base port past r.entry.act (text_before_last_drain plan base port past)
-
 -- What a sink took is the output that a history sends, by how that ended there: all of it; or, where a write failed, a front
 -- of it that holds all that the drains before the last one took. An output ends in no other way.
 abbrev pub FitsOutput : Option (List ℕ) → Option (List ℕ) → List ℕ → List ℕ → Option How → Type 0
@@ -70,8 +54,3 @@ FitsOutput before after output sure (Some (hows.Malformed at)) = ⊥
 FitsOutput before after output sure (Some (hows.Overlong at)) = ⊥
 FitsOutput before after output sure (Some hows.Unwritten) = ⊥
 FitsOutput before after output sure None = ⊥
-
--- the same of a port after a history
-abbrev pub FitsOutputAt : Plan → Base → Option (List ℕ) → Option (List ℕ) → ℕ → List Row → Type 0
-FitsOutputAt plan base before after port past =
-    FitsOutput before after (capture_text (sent_items (sent plan base port past))) (text_before_last_drain plan base port past) (output_end port past)

@@ -8,10 +8,10 @@ use Rattle.hist_store.specs.declared.version.Version.{Version}
 use Rattle.hist_store.specs.declared.version.Version.TheVariants as versions
 use Rattle.hist_store.specs.Rows.{Row}
 use Rattle.hist_store.specs.TextOfLines.{joined as line_text, lines_text}
-use Rattle.hist_store.specs.JournalTexts.{Segment, StandsFor, begin_line, entry_lines, first_segment, header_lines, journal_end_line, journal_text_of, segment_lines, segments_lines}
+use Rattle.hist_store.specs.JournalTexts.{Segment, StandsFor, begin_line, entry_lines, header_lines, journal_end_line, journal_text_of, segment_lines, segments_lines}
 use Rattle.hist_store.proofs.LineLemmas.{lines_text-append}
 use Rattle.hist_store.proofs.Words.{IsLines, lines_append}
-use Rattle.hist_store.proofs.JournalLemmas.{IsFrontOf, entries_apart, lines_either, segments_text}
+use Rattle.hist_store.proofs.JournalLemmas.{first_segment, IsFrontOf, entries_apart, lines_either, segments_text}
 use Rattle.checkpoint.specs.Bases.{Base, empty}
 use Rattle.checkpoint.specs.BaseLines.{base_lines}
 use Rattle.savi_history.specs.Legal.{IsLegal}

@@ -7,9 +7,9 @@ use Rattle.savi_kinds.specs.declared.plan.Plan.{Plan}
 use Rattle.savi_history.specs.Passes.{pass_count, pass_of}
 use Rattle.savi_history.specs.Merges.{merged}
 use Rattle.savi_history.specs.Turns.{Turn, who_of, turn_at}
-use Rattle.savi_history.specs.Picks.{first_at, IsLeast}
+use Rattle.savi_history.specs.Picks.{IsLeast}
 use Rattle.savi_history.specs.Replay.{Stops}
-use Rattle.savi_history.proofs.Merging.{picked}
+use Rattle.savi_history.proofs.Merging.{first_at, picked}
 use Rattle.savi_segments.specs.Replay.{Run, all_taken, has_ended_in, taken_if_open}
 use Rattle.savi_segments.proofs.EachTurn.{Each}
 use Rattle.savi_segments.proofs.ForGood.{AreOf, AreSingle, IsLow, IsOfOne, LaterIn, is_open_in, later_if_open, low_of, still_open_in, stopped}

@@ -8,9 +8,9 @@ use Rattle.savi_kinds.specs.declared.plan.Plan.{Plan}
 use Rattle.savi_history.specs.Passes.{control_pass, pass_count, pass_of}
 use Rattle.savi_history.specs.Merges.{merged}
 use Rattle.savi_history.specs.Turns.{Turn, who_of, turn_at}
-use Rattle.savi_history.specs.Picks.{first_at, IsLeast}
+use Rattle.savi_history.specs.Picks.{IsLeast}
 use Rattle.savi_history.specs.Replay.{Stops}
-use Rattle.savi_history.proofs.Merging.{merged_none}
+use Rattle.savi_history.proofs.Merging.{first_at, merged_none}
 use Rattle.savi_segments.specs.Replay.{Run, all_taken, has_ended_in, taken_if_open}
 use Rattle.savi_segments.proofs.ForGood.{AreOf, AreSingle, IsOfOne, is_open_in, still_open_in, stopped}
 use Rattle.savi_segments.proofs.Order.{cases_below, get_or-map_past, of_open, of_ended, next_turn}
