@@ -2,7 +2,7 @@
 
 ghost use Rattle.std.specs.Prelude.{◌≡◌, Some};
 
-use crate::frames::{FIRST_OF_2, RECORD_OCTETS};
+use crate::frames::{FIRST_OF_1, FIRST_OF_2, RECORD_OCTETS};
 use crate::marks::{LAST_TURN, Marks};
 use savi_ends::{MemSink, Put, Sink};
 use std::sync::atomic::Ordering;
@@ -11,9 +11,9 @@ use std::sync::atomic::Ordering;
 #[derive(Clone, Copy)]
 pub enum Hold<'a> {
     Nothing,
-    /// The sink of port 3 notes that it was given the first frame of port 2, and its write of that frame returns only once the
-    /// pass of port 2's input has come by for its third turn.
-    FirstOf2(&'a Marks),
+    /// The sink of port 3 notes that it was given the first frame of port 1, and that of port 2. Its write of the latter
+    /// returns only once the pass of port 2's input has come by for its third turn.
+    Firsts(&'a Marks),
     /// The sink of control notes that it was given a reply, and that write returns only once the pass of port 1's input has
     /// come by for its third turn.
     Reply(&'a Marks),
@@ -54,24 +54,32 @@ impl<'a> Sink for HeldSink<'a> {
 
     fn write(&mut self, piece: &[u8]) -> Put {
         match self.hold {
-            Hold::FirstOf2(marks) if has_first_of_2(piece) => {
-                marks.given.store(1, Ordering::SeqCst);
-                marks.wait_for(self.rt, &marks.turn_of_2, LAST_TURN);
-            }
+            Hold::Firsts(marks) => note_firsts(self.rt, marks, piece),
             Hold::Reply(marks) => {
                 marks.replied.store(1, Ordering::SeqCst);
                 marks.wait_for(self.rt, &marks.turn_of_1, LAST_TURN);
             }
-            Hold::Nothing | Hold::FirstOf2(_) => {}
+            Hold::Nothing => {}
         }
         self.sink.write(piece)
     }
 }
 
-// Whether the first frame of port 2 is one of these records.
-fn has_first_of_2(records: &[u8]) -> bool {
+// Notes which of the ports' first frames are among these records, and waits where that of port 2 is.
+fn note_firsts(rt: HostRuntime, marks: &Marks, records: &[u8]) {
+    if has(records, FIRST_OF_1.as_slice()) {
+        marks.given_of_1.store(1, Ordering::SeqCst);
+    }
+    if has(records, FIRST_OF_2.as_slice()) {
+        marks.given.store(1, Ordering::SeqCst);
+        marks.wait_for(rt, &marks.turn_of_2, LAST_TURN);
+    }
+}
+
+// Whether this is one of these records.
+fn has(records: &[u8], wanted: &[u8]) -> bool {
     for record in records.chunks(RECORD_OCTETS) {
-        if record == FIRST_OF_2.as_slice() {
+        if record == wanted {
             return true;
         }
     }

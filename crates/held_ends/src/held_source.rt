@@ -1,4 +1,4 @@
-//! A source that notes what it was asked for and what it answered, and may wait before it gives its second record.
+//! A source that notes what it was asked for, and may wait before it gives its second record.
 
 ghost use Rattle.std.specs.Prelude.{◌≡◌};
 
@@ -6,7 +6,7 @@ use crate::frames::RECORD_OCTETS;
 use crate::marks::Marks;
 use savi_ends::{Got, MemSource, Source};
 use std::alloc::Global;
-use std::sync::atomic::{AtomicU64, Ordering};
+use std::sync::atomic::Ordering;
 
 /// What a source notes.
 #[derive(Clone, Copy)]
@@ -15,8 +15,6 @@ pub enum Note<'a> {
     /// The source of port 1 notes each read, and gives its second record only once the sink of port 3 was given the first
     /// frame of port 2.
     Reads(&'a Marks),
-    /// The source notes by 1 that it has answered that nothing is left.
-    End(&'a AtomicU64),
 }
 
 /// A source of records in memory, of which a read gives one.
@@ -56,11 +54,6 @@ impl<'a> Source for HeldSource<'a> {
                 marks.wait_for(self.rt, &marks.given, 1);
             }
         }
-        let got = self.source.read(buf);
-        match self.note {
-            Note::End(mark) if got == Got::End => mark.store(1, Ordering::SeqCst),
-            Note::Nothing | Note::Reads(_) | Note::End(_) => {}
-        }
-        got
+        self.source.read(buf)
     }
 }

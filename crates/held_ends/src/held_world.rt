@@ -119,11 +119,10 @@ impl<'a> HeldWorld<'a> {
     {
         let note = match (self.waits, number) {
             (Waits::ForOneAnother, 1) => Note::Reads(self.marks),
-            (Waits::ForOneAnother, _) => Note::Nothing,
-            (Waits::ForNothing, _) => Note::End(self.marks.end_of(number)),
+            (Waits::ForOneAnother | Waits::ForNothing, _) => Note::Nothing,
         };
         let hold = match (self.waits, number) {
-            (Waits::ForOneAnother, 3) => Hold::FirstOf2(self.marks),
+            (Waits::ForOneAnother, 3) => Hold::Firsts(self.marks),
             (Waits::ForOneAnother | Waits::ForNothing, _) => Hold::Nothing,
         };
         Ok(Ends {

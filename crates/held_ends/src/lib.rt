@@ -8,8 +8,8 @@
 //! So a switch that reads, writes or waits while it holds its lock, or sends only at the end, can't go on; each wait gives up
 //! after 20 s then, and is told (`Marks::has_given_up`).
 //!
-//! In another world of the same ports (`Waits::ForNothing`) no end waits, port 3 brings two frames too, and each source notes
-//! that it has answered that nothing is left (`Marks::end_of`). So a gate can hold one input back until the others are read.
+//! In another world of the same ports (`Waits::ForNothing`) no end waits, and port 3 brings two frames too. So a gate can hold
+//! one input back until all that the others bring is entered.
 #![tactic(auto)]
 
 mod frames;
@@ -24,4 +24,4 @@ pub use held_clock::HeldClock;
 pub use held_sink::{HeldSink, Hold};
 pub use held_source::{HeldSource, Note};
 pub use held_world::{COMMANDS, HeldEnds, HeldWorld, JOURNAL, PLAN, REPLIES, Waits};
-pub use marks::Marks;
+pub use marks::{LAST_TURN, Marks};

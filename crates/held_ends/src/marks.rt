@@ -9,27 +9,27 @@ const LOOKS_MOST: u32 = 20_000;
 
 const SLEEP_MS: u64 = 1;
 
-/// The last turn of the inputs of ports 1 and 2, each of which has two records and ends.
-pub(crate) const LAST_TURN: u64 = 3;
+/// The last turn of the input of a port that brings two records and ends. Where its pass comes by for that turn both are
+/// entered.
+pub const LAST_TURN: u64 = 3;
 
 /// What the ends and the passes of a session have come to, each as a number that only grows.
 #[derive(Drop)]
 pub struct Marks {
-    /// The turns for which the passes of the inputs of ports 1 and 2 came by last.
+    /// The turns for which the passes of the ports' inputs came by last.
     pub turn_of_1: AtomicU64,
     pub turn_of_2: AtomicU64,
+    pub turn_of_3: AtomicU64,
     /// How often the source of port 1 was asked for a record.
     pub asked: AtomicU64,
+    /// 1 once the sink of port 3 was given the first frame of port 1.
+    pub given_of_1: AtomicU64,
     /// 1 once the sink of port 3 was given the first frame of port 2.
     pub given: AtomicU64,
     /// 1 once the sink of control was given a reply.
     pub replied: AtomicU64,
     /// 1 once the ticker's clock was told to wait.
     pub waited: AtomicU64,
-    // 1 each once the source of the port has answered that nothing is left.
-    end_of_1: AtomicU64,
-    end_of_2: AtomicU64,
-    end_of_3: AtomicU64,
     // 1 once a wait has given up.
     given_up: AtomicU64,
 }
@@ -40,23 +40,22 @@ impl Marks {
         Marks {
             turn_of_1: AtomicU64::new(0),
             turn_of_2: AtomicU64::new(0),
+            turn_of_3: AtomicU64::new(0),
             asked: AtomicU64::new(0),
+            given_of_1: AtomicU64::new(0),
             given: AtomicU64::new(0),
             replied: AtomicU64::new(0),
             waited: AtomicU64::new(0),
-            end_of_1: AtomicU64::new(0),
-            end_of_2: AtomicU64::new(0),
-            end_of_3: AtomicU64::new(0),
             given_up: AtomicU64::new(0),
         }
     }
 
-    /// What is 1 once the source of this port has answered that nothing is left. It is noted where `Note::End` says so.
-    pub fn end_of(&self, number: u8) -> &AtomicU64 {
+    /// The turn for which the pass of this port's input came by last.
+    pub fn turn_of(&self, number: u8) -> &AtomicU64 {
         match number {
-            1 => &self.end_of_1,
-            2 => &self.end_of_2,
-            _ => &self.end_of_3,
+            1 => &self.turn_of_1,
+            2 => &self.turn_of_2,
+            _ => &self.turn_of_3,
         }
     }
 

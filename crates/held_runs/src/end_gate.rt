@@ -1,10 +1,12 @@
 //! The gate of a session that holds one input back.
 
-use held_ends::Marks;
+use held_ends::{LAST_TURN, Marks};
 use live_turns::Gate;
 use std::sync::Wait;
+use std::sync::atomic::Ordering;
 
-/// Holds the first turn of one input back until the sources of the other ports have answered that nothing is left.
+/// Notes the turns of the inputs, and holds the first one of one of them back until the others have come by for their last
+/// turns, so that all that these bring is entered. That their sources were read to the end wouldn't say so: readers go ahead.
 #[derive(Drop)]
 pub struct EndGate<'a> {
     pub rt: HostRuntime,
@@ -17,11 +19,17 @@ pub struct EndGate<'a> {
 impl<'a> Gate for EndGate<'a> {
     fn pass_by<R: Wait>(&self, _rt: &R, pass: u32, turn: u64) {
         // The passes of the inputs are the first ones, by the numbers of their ports from 1 on.
+        for number in self.others {
+            if pass == u32::from(number).saturating_sub(1) {
+                self.marks.turn_of(number).store(turn, Ordering::SeqCst);
+            }
+        }
         if turn != 1 || pass != u32::from(self.held).saturating_sub(1) {
             return;
         }
         for number in self.others {
-            self.marks.wait_for(self.rt, self.marks.end_of(number), 1);
+            self.marks
+                .wait_for(self.rt, self.marks.turn_of(number), LAST_TURN);
         }
     }
 }

@@ -11,9 +11,10 @@ const INPUT_OF_1: u32 = 0;
 const INPUT_OF_2: u32 = 1;
 
 /// Notes the turns of the inputs of ports 1 and 2, and holds them back: the first turn of each until the other has come by
-/// for its own, and that of port 2 also until the source of port 1 was asked for its second record; the second turn of port
-/// 2 until the sink of port 3 was given its first frame; and the second turn of port 1 until port 2 has come by for its
-/// third, control has a reply to write, and the ticker waits.
+/// for its own and the source of port 1 was asked for its second record, while none of its first is entered; that of port 2
+/// also until the sink of port 3 was given the first frame of port 1; the second turn of port 2 until the sink of port 3 was
+/// given its first frame; and the second turn of port 1 until port 2 has come by for its third, control has a reply to
+/// write, and the ticker waits.
 #[derive(Drop)]
 pub struct HeldGate<'a> {
     pub rt: HostRuntime,
@@ -29,7 +30,10 @@ impl<'a> Gate for HeldGate<'a> {
             _ => {}
         }
         match (pass, turn) {
-            (INPUT_OF_1, 1) => marks.wait_for(self.rt, &marks.turn_of_2, 1),
+            (INPUT_OF_1, 1) => {
+                marks.wait_for(self.rt, &marks.turn_of_2, 1);
+                marks.wait_for(self.rt, &marks.asked, 2);
+            }
             (INPUT_OF_1, 2) => {
                 marks.wait_for(self.rt, &marks.turn_of_2, 3);
                 marks.wait_for(self.rt, &marks.replied, 1);
@@ -38,6 +42,7 @@ impl<'a> Gate for HeldGate<'a> {
             (INPUT_OF_2, 1) => {
                 marks.wait_for(self.rt, &marks.turn_of_1, 1);
                 marks.wait_for(self.rt, &marks.asked, 2);
+                marks.wait_for(self.rt, &marks.given_of_1, 1);
             }
             (INPUT_OF_2, 2) => marks.wait_for(self.rt, &marks.given, 1),
             _ => {}

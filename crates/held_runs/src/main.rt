@@ -1,5 +1,5 @@
 //! Live sessions of the whole program whose workers must run side by side: one over ends that wait for one another
-//! (`held_ends`), and for each port one in which its input is held back until the other two have been read to their ends.
+//! (`held_ends`), and for each port one in which its input is held back until all that the other two bring is entered.
 //!
 //! The input is the configuration, of three trusted ports over streams. What is printed is the same whatever the order in
 //! which the workers come to the switch: the status, what standard error was told, the frames that were written at each
@@ -72,8 +72,7 @@ fn run_side_by_side<R: Print + Threads + Wait + Sync>(
     print_whether_given_up(rt, &marks)
 }
 
-// Runs a session in which the input of one port is held back until the sources of the others have answered that nothing is
-// left.
+// Runs a session in which the input of one port is held back until all that the others bring is entered.
 fn run_behind<R: Print + Threads + Wait + Sync>(
     rt: &R,
     host: HostRuntime,

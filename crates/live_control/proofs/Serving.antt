@@ -21,8 +21,7 @@ use Rattle.checkpoint.specs.Bases.{empty}
 use Rattle.savi_history.specs.ControlFits.{AreFirst, FitsControl, HasNoQuit}
 use Rattle.savi_history.specs.ControlInputs.{control_end, entered_lines, is_quit}
 use Rattle.savi_history.specs.ControlOutputs.{FitsReplies, IsUnwritten, replies}
-use Rattle.live_session.specs.LiveControl.{AreLiveLines, line_stamps}
-use Rattle.live_session.specs.LiveInputs.{AreReadings}
+use Rattle.live_session.specs.LiveControl.{AreLiveLines, AreReadings, line_stamps}
 use Rattle.live_session.specs.LiveRows.{ControlRow}
 use Rattle.live_control.specs.LineTurns.{AnswersLine, IsAnswered, IsRefused}
 use Rattle.live_control.specs.Heard.{HasHeard, start}

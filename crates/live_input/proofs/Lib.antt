@@ -1,3 +1,2 @@
 pub mod InputTurns
-pub mod Telling
-pub mod Going
+pub mod Judging

@@ -1,3 +1,2 @@
 pub mod Entered
-pub mod Progress
-pub mod Workers
+pub mod Judged

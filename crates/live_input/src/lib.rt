@@ -1,13 +1,13 @@
-//! The worker of an ingress port in a live session: it reads the input of its port, and enters what came in.
+//! The judge of an ingress port in a live session: it takes what the reader of its port puts, and enters what came in.
 //!
-//! Each arrival is read (`input_read`) and classed (`frame_class`) outside the lock, and entered in one turn of the port's
-//! pass. These are calls of their own: what was read are the arrivals of the source's octets, and what is entered are the
-//! arrivals that were given (`specs/Entered.antt`). `IngressWorker::run` does so up to the end of the input. Its contract
-//! (`specs/Workers.antt`) says by `live_session` what the history then holds of the source and the clock.
+//! Each arrival comes in a box through the ring of the port (`parcel_ring`), is classed outside the lock (`frame_class`), and
+//! entered in one turn of the port's pass. `Ingress::run` does so up to the end of the input, and passes over what comes
+//! behind an arrival for which there was no room. It knows no source and no clock: its contract (`specs/Judged.antt`) says by
+//! what it took what the history then holds of the input, and the reader's (`port_reader`) what was put.
 #![tactic(auto)]
 
 mod entering;
-mod worker;
+mod judge;
 
 pub use entering::{enter_arrival, enter_ending};
-pub use worker::IngressWorker;
+pub use judge::Ingress;

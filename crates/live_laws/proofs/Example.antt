@@ -20,6 +20,7 @@ use Rattle.nd_read.specs.Messages.{named}
 use Rattle.nd_read.specs.NdOf.{nd_of, passes as message_passes}
 use Rattle.frame_class.specs.ClassOf.{class_of}
 use Rattle.ra_guard.specs.GuardOf.{guard_of}
+use Rattle.port_reader.specs.Inputs.{AreArrivals}
 use Rattle.cli_lang.specs.Arrivals as control
 use Rattle.cli_lang.specs.CommandOf.{command_of}
 use Rattle.hist_store.specs.Rows.{Row}
@@ -36,7 +37,6 @@ use Rattle.savi_history.specs.Queues.{probes, lost}
 use Rattle.savi_history.proofs.Example.{port_one, packet}
 use Rattle.savi_history.proofs.Starting.{empty_within}
 use Rattle.live_session.specs.LiveControl.{AreLiveLines}
-use Rattle.live_session.specs.LiveInputs.{AreStream}
 use Rattle.live_session.specs.LiveRows.{ControlRow}
 use Rattle.live_session.specs.LiveSession.{PortRow, IsLive}
 use Rattle.savi_laws.specs.Rebuilt.{rows_by}
@@ -134,7 +134,7 @@ inputs = record { arrivals = arrivals.Frame 1000 packet ∷ []; ending = hows.En
 abbrev pub commands : control.Input
 commands = record { arrivals = record { stamp = 1001; command = quit } ∷ []; ending = hows.End }
 
-stream_is : AreStream stream (arrivals.Frame 1000 packet ∷ []) hows.End
+stream_is : AreArrivals formats.Stream true stream (arrivals.Frame 1000 packet ∷ []) hows.End
 stream_is = (stream, [], refl, (record { size = refl; counted = refl }, lit≤ tt, refl), lit≤ tt, (refl, refl))
 
 line_is : AreLiveLines true quit_line (record { stamp = 1001; command = quit } ∷ []) hows.End
@@ -194,15 +194,20 @@ past_is_legal = (
 port_row : PortRow told told none_failed none_failed told plan empty past (record { number = port_one; role = roles.Host; format = formats.Stream; input = []; output = [] }) old_port new_port
 unfolding class_of nd_of named message_passes kind_of guard_of judged offers probes lost
 port_row = (
-  record {
-    gave = (stream, refl);
-    fits = stream_is;
-    near = λ at same. omega arith;
-    stamped = ([], refl, refl);
-    later = lit≤ tt;
-    broken = λ same. let never : Some hows.End ≡ Some hows.Failed = same in absurd cc;
-    still = λ other. refl;
-  },
+  (
+    [],
+    hows.End,
+    record {
+      gave = (stream, refl);
+      fits = stream_is;
+      near = λ at same. omega arith;
+      stamped = ([], refl, refl);
+      later = lit≤ tt;
+      broken = λ same. let never : hows.End ≡ hows.Failed = same in absurd cc;
+      still = λ other. refl;
+    },
+    refl,
+  ),
   record {
     fits = refl;
     later = lit≤ tt;

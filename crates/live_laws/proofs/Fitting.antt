@@ -2,20 +2,18 @@
 use Rattle.std.proofs.Common.{◌≡◌, ℕ, ◌≤◌, Bool, true, false, List, [], ◌∷◌, ◌++◌, sum_by, Option, Some, None, IfSome, refl, sym, subst, ◌∙◌, append-nil, arith}
 use Rattle.std.proofs.lemmas.List.Sums.{sum_by-append}
 use Rattle.savi_kinds.specs.declared.plan.Format.{Format}
-use Rattle.savi_kinds.specs.declared.plan.Format.TheVariants.{Pcap, Stream}
 use Rattle.savi_kinds.specs.declared.entry.How.{How}
 use Rattle.savi_kinds.specs.declared.entry.How.TheVariants as hows
 use Rattle.savi_kinds.specs.Arrivals.{Arrival}
 use Rattle.savi_ends.specs.Octets.{Takes}
 use Rattle.stream_io.specs.Streams as streams
+use Rattle.port_reader.specs.Inputs.{AreArrivals, FitsRead, IsReadBroken, IsReadWhole}
 use Rattle.cli_lang.specs.Arrivals.{Line}
 use Rattle.cli_lang.specs.Arrivals as control
 use Rattle.savi_history.specs.ControlFits.{FitsControl, Begins, AreFirst, AreBeforeRefusal}
 use Rattle.savi_history.specs.Fits.{IsWhole}
 use Rattle.live_session.specs.LiveControl.{AreLiveLines}
-use Rattle.live_session.specs.LiveInputs.{AreCapture, FitsInput}
-use Rattle.live_laws.specs.SourceInputs.{IsGivenInput}
-use Rattle.live_laws.proofs.Fronts.{capture_most, stream_most, lines_most, lines_same}
+use Rattle.live_laws.proofs.Fronts.{arrivals_most, lines_most, lines_same}
 
 -- what a source gave up is a front of what it told
 gave_front : (before after : Option (List ℕ)) (gave octets : List ℕ) → before ≡ Some octets → Takes before after gave → (rest : List ℕ) × (octets ≡ gave ++ rest)
@@ -23,49 +21,29 @@ gave_front before None gave octets told takes = let never : Some octets ≡ None
 gave_front before (Some rest) gave octets told takes = let both : Some octets ≡ Some (gave ++ rest) = sym told ∙ takes in (rest, cc)
 
 -- those in front weigh no more
-less : {A : Type 0} (weight : A → ℕ) (some later : List A) (most : ℕ) → sum_by weight (some ++ later) ≤ most → sum_by weight some ≤ most
+pub less : {A : Type 0} (weight : A → ℕ) (some later : List A) (most : ℕ) → sum_by weight (some ++ later) ≤ most → sum_by weight some ≤ most
 less weight some later most low = omega (arith, sum_by-append weight some later, low)
 
--- the octets of a form of input: those in front of others hold no more
-module _ (weight : Arrival → ℕ) (Arrives : Bool → List ℕ → List Arrival → How → Type 0)
-    (most : (ends : Bool) (octets more : List ℕ) (some all : List Arrival) (e f : How) → Arrives ends octets some e → Arrives true (octets ++ more) all f → sum_by weight some ≤ sum_by weight all)
-    (before : Option (List ℕ)) (octets : List ℕ) (told : before ≡ Some octets) (all : List Arrival) (f : How) (are : Arrives true octets all f) where
-  whole_most : (some : List Arrival) (e : How) → IsWhole (Arrives true) before some e → sum_by weight some ≤ sum_by weight all
+module _ (weight : Arrival → ℕ) (blind : (reading : ℕ) (a : Arrival) → weight (streams.stamped_at reading a) ≡ weight a)
+    (format : Format) (before after : Option (List ℕ)) (octets : List ℕ) (all : List Arrival) (f : How) (told : before ≡ Some octets) (are : AreArrivals format true octets all f) where
+  whole_most : (some : List Arrival) (e : How) → IsReadWhole format before some e → sum_by weight some ≤ sum_by weight all
   whole_most some e whole =
-      most true octets [] some all e f (subst (λ (b : Option (List ℕ)). IfSome b (λ l. Arrives true l some e)) told whole)
-      (subst (λ (l : List ℕ). Arrives true l all f) (sym (append-nil octets)) are)
+      arrivals_most weight blind format true octets [] some all e f (subst (λ (b : Option (List ℕ)). IfSome b (λ l. AreArrivals format true l some e)) told whole)
+      (subst (λ (l : List ℕ). AreArrivals format true l all f) (sym (append-nil octets)) are)
 
-  gave_most : (ends : Bool) (after : Option (List ℕ)) (gave : List ℕ) (some : List Arrival) (e : How) → Takes before after gave → Arrives ends gave some e → sum_by weight some ≤ sum_by weight all
-  gave_most ends after gave some e takes part =
-      let front = gave_front before after gave octets told takes in
-      most ends gave front.0 some all e f part (subst (λ (l : List ℕ). Arrives true l all f) front.1 are)
+  broken_most : (some : List Arrival) → IsReadBroken format before after some → sum_by weight some ≤ sum_by weight all
+  broken_most some broken =
+      let front = gave_front before after broken.gave octets told broken.takes in
+      arrivals_most weight blind format false broken.gave front.0 some all hows.Failed f broken.read (subst (λ (l : List ℕ). AreArrivals format true l all f) front.1 are)
 
-module _ (weight : Arrival → ℕ) (blind : (reading : ℕ) (a : Arrival) → weight (streams.stamped_at reading a) ≡ weight a) where
-  abbrev IsStream : Bool → List ℕ → List Arrival → How → Type 0
-  IsStream seen octets arrivals ending = streams.IsRun seen 0 arrivals ending octets
-
-  pub input_most : (format : Format) (before after : Option (List ℕ)) (octets : List ℕ) (some all : List Arrival) (ended_so : Option How) (f : How) → before ≡ Some octets → IsGivenInput format octets (record { arrivals = all; ending = f })
-      → FitsInput format before after some ended_so → sum_by weight some ≤ sum_by weight all
-  input_most Pcap before after octets some all (Some hows.End) f told are fits = whole_most weight AreCapture (capture_most weight blind) before octets told all f are some hows.End fits
-  input_most Pcap before after octets some all (Some (hows.Malformed at)) f told are fits = whole_most weight AreCapture (capture_most weight blind) before octets told all f are some (hows.Malformed at) fits
-  input_most Pcap before after octets some all (Some hows.Failed) f told are fits = gave_most weight AreCapture (capture_most weight blind) before octets told all f are false after fits.gave some hows.Failed fits.takes fits.read
-  input_most Pcap before after octets some all (Some hows.Paused) f told are fits =
-      less weight some (fits.refused ∷ []) (sum_by weight all)
-      (gave_most weight AreCapture (capture_most weight blind) before octets told all f are true after fits.gave (some ++ fits.refused ∷ []) hows.End fits.takes fits.read)
-  input_most Pcap before after octets some all (Some hows.Quit) f told are fits = absurd fits
-  input_most Pcap before after octets some all (Some (hows.Overlong at)) f told are fits = absurd fits
-  input_most Pcap before after octets some all (Some hows.Unwritten) f told are fits = absurd fits
-  input_most Pcap before after octets some all None f told are fits = absurd fits
-  input_most Stream before after octets some all (Some hows.End) f told are fits = whole_most weight IsStream (stream_most weight blind) before octets told all f are some hows.End fits
-  input_most Stream before after octets some all (Some (hows.Malformed at)) f told are fits = whole_most weight IsStream (stream_most weight blind) before octets told all f are some (hows.Malformed at) fits
-  input_most Stream before after octets some all (Some hows.Failed) f told are fits = gave_most weight IsStream (stream_most weight blind) before octets told all f are false after fits.gave some hows.Failed fits.takes fits.run
-  input_most Stream before after octets some all (Some hows.Paused) f told are fits =
-      less weight some (fits.refused ∷ fits.behind) (sum_by weight all)
-      (gave_most weight IsStream (stream_most weight blind) before octets told all f are false after fits.gave (some ++ fits.refused ∷ fits.behind) fits.ending fits.takes fits.run)
-  input_most Stream before after octets some all (Some hows.Quit) f told are fits = absurd fits
-  input_most Stream before after octets some all (Some (hows.Overlong at)) f told are fits = absurd fits
-  input_most Stream before after octets some all (Some hows.Unwritten) f told are fits = absurd fits
-  input_most Stream before after octets some all None f told are fits = absurd fits
+  pub read_most : (some : List Arrival) (ending : How) → FitsRead format before after some ending → sum_by weight some ≤ sum_by weight all
+  read_most some hows.End fits = whole_most some hows.End fits
+  read_most some (hows.Malformed at) fits = whole_most some (hows.Malformed at) fits
+  read_most some hows.Failed fits = broken_most some fits
+  read_most some hows.Quit fits = absurd fits
+  read_most some (hows.Overlong at) fits = absurd fits
+  read_most some hows.Unwritten fits = absurd fits
+  read_most some hows.Paused fits = absurd fits
 
 module _ (weight : Line → ℕ) (blind : (reading : ℕ) (line : Line) → weight (control.stamped_at reading line) ≡ weight line)
     (before after : Option (List ℕ)) (octets : List ℕ) (all : List Line) (f : How) (told : before ≡ Some octets) (are : AreLiveLines true octets all f) where

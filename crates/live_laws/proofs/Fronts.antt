@@ -4,22 +4,24 @@ use Rattle.std.proofs.Common.{◌≡◌, ℕ, ◌≤◌, Bool, true, false, List
 use Rattle.std.proofs.lemmas.List.Sums.{sum_by-cons, sum_by-append}
 use Rattle.savi_kinds.specs.declared.entry.How.{How}
 use Rattle.savi_kinds.specs.Arrivals.{Arrival}
+use Rattle.savi_kinds.specs.declared.plan.Format.{Format}
+use Rattle.savi_kinds.specs.declared.plan.Format.TheVariants.{Pcap, Stream}
 use Rattle.pcap_io.specs.Kinds.{classic_kinds}
 use Rattle.pcap_io.proofs.Uniqueness as captures
 use Rattle.stream_io.specs.Streams as streams
 use Rattle.stream_io.proofs.Uniqueness as stream_runs
+use Rattle.port_reader.specs.Inputs.{AreArrivals}
 use Rattle.cli_lang.specs.Arrivals.{Line}
 use Rattle.cli_lang.specs.Arrivals as control
 use Rattle.cli_lang.proofs.Uniqueness as line_runs
 use Rattle.live_session.specs.LiveControl.{AreLiveLines}
-use Rattle.live_session.specs.LiveInputs.{AreCapture}
 
 -- a front of a list weighs no more
 front_most : {A : Type 0} (weight : A → ℕ) (all some later : List A) → all ≡ some ++ later → sum_by weight some ≤ sum_by weight all
 front_most {A} weight all some later is = omega (arith, sum_by-append weight some later, ap (λ (l : List A). sum_by weight l) is)
 
 module _ (weight : Arrival → ℕ) (blind : (reading : ℕ) (a : Arrival) → weight (streams.stamped_at reading a) ≡ weight a) where
-  pub capture_most : (ends : Bool) (octets more : List ℕ) (some all : List Arrival) (e f : How) → AreCapture ends octets some e → AreCapture true (octets ++ more) all f → sum_by weight some ≤ sum_by weight all
+  capture_most : (ends : Bool) (octets more : List ℕ) (some all : List Arrival) (e f : How) → AreArrivals Pcap ends octets some e → AreArrivals Pcap true (octets ++ more) all f → sum_by weight some ≤ sum_by weight all
   capture_most ends octets more some all e f part whole =
       let front = captures.front_input classic_kinds ends true octets more (record { arrivals = some; ending = e }) (record { arrivals = all; ending = f }) part whole in
       front_most weight all some front.0 front.1
@@ -51,7 +53,7 @@ module _ (weight : Arrival → ℕ) (blind : (reading : ℕ) (a : Arrival) → w
         stamped_most readings arrivals,
       )
 
-  pub stream_most : (ends : Bool) (octets more : List ℕ) (some all : List Arrival) (e f : How) → streams.IsRun ends 0 some e octets → streams.IsRun true 0 all f (octets ++ more) → sum_by weight some ≤ sum_by weight all
+  stream_most : (ends : Bool) (octets more : List ℕ) (some all : List Arrival) (e f : How) → streams.IsRun ends 0 some e octets → streams.IsRun true 0 all f (octets ++ more) → sum_by weight some ≤ sum_by weight all
   stream_most ends octets more some all e f part whole =
       let readings : List ℕ = readings_for some in
       let part_is : streams.Arrive ends readings octets (record { arrivals = streams.stamped_by readings some; ending = e }) =
@@ -65,6 +67,10 @@ module _ (weight : Arrival → ℕ) (blind : (reading : ℕ) (a : Arrival) → w
         front_most weight (streams.stamped_by (readings ++ []) all) (streams.stamped_by readings some) front.0 front.1,
         stamped_most (readings ++ []) all,
       )
+
+  pub arrivals_most : (format : Format) (ends : Bool) (octets more : List ℕ) (some all : List Arrival) (e f : How) → AreArrivals format ends octets some e → AreArrivals format true (octets ++ more) all f → sum_by weight some ≤ sum_by weight all
+  arrivals_most Pcap ends octets more some all e f part whole = capture_most ends octets more some all e f part whole
+  arrivals_most Stream ends octets more some all e f part whole = stream_most ends octets more some all e f part whole
 
 module _ (weight : Line → ℕ) (blind : (reading : ℕ) (line : Line) → weight (control.stamped_at reading line) ≡ weight line) where
   abbrev readings_of : List Line → List ℕ

@@ -1,5 +1,5 @@
 -- What a live session's history holds is no more than what its sources have, and so the budget by these suffices.
-use Rattle.std.proofs.Common.{◌≡◌, ℕ, zero, suc, ◌+◌, ◌*◌, ◌<◌, ◌≤◌, false, List, [], ◌∷◌, length, slice_index_or, sum_by, Option, Some, None, refl, ap, arith}
+use Rattle.std.proofs.Common.{◌≡◌, ℕ, zero, suc, ◌+◌, ◌*◌, ◌<◌, ◌≤◌, false, List, [], ◌∷◌, ◌++◌, length, slice_index_or, sum_by, Option, Some, None, refl, ap, arith}
 use Rattle.std.specs.List.{flat_map}
 use Rattle.std.proofs.lemmas.List.Sums.{sum_by-append}
 use Rattle.savi_kinds.specs.declared.plan.Plan.{Plan}
@@ -17,7 +17,7 @@ use Rattle.checkpoint.specs.Bases.{Base}
 use Rattle.savi_history.specs.ControlInputs.{entered_lines, control_end}
 use Rattle.savi_history.specs.Endings.{has_paused_end}
 use Rattle.savi_history.specs.Limits.{IsWithinLimits}
-use Rattle.savi_history.specs.PortInputs.{arrived, input_end}
+use Rattle.savi_history.specs.PortInputs.{arrived}
 use Rattle.savi_history.specs.Vlans.{the_vlan}
 use Rattle.live_session.specs.LiveSession.{ControlOf, IsLive}
 use Rattle.savi_laws.specs.Budgets.{input_count, given_count, given_octets, kept_of, lines_of, arrivals_of, all_arrived, entries_most}
@@ -25,7 +25,7 @@ use Rattle.savi_laws.proofs.Enough.{few_entries, none_full, fewer_causes}
 use Rattle.savi_laws.proofs.Given.{legal_given, sum_ones}
 use Rattle.savi_laws.proofs.ReplayBudget.{fewer_octets}
 use Rattle.live_laws.specs.SourceInputs.{HasLines, HaveInputs, causes_in, SufficesFor}
-use Rattle.live_laws.proofs.Fitting.{input_most, control_most}
+use Rattle.live_laws.proofs.Fitting.{less, read_most, control_most}
 
 -- what is kept of an arrival isn't its stamp
 kept_blind : (reading : ℕ) (a : Arrival) → kept_of (streams.stamped_at reading a) ≡ kept_of a
@@ -61,10 +61,12 @@ module _ {S K C : Type 0} (left : S → Option (List ℕ)) (written : K → Opti
       ports_most weight past plan.ports inputs have.each_input (λ place p i within.
       let d : Ends S K C = element old_ports place (omega (arith, have.each_port, within)) in
       let has = have.have place p d i within in
-      let row = live.ports place p d within in
-      input_most weight blind (slice_index_or plan.ports place p).format (left (slice_index_or old_ports place d).source) (left (slice_index_or new_ports place d).source) has.0
-      (arrived (number_of (slice_index_or plan.ports place p).number) past) (slice_index_or inputs place i).arrivals
-      (input_end (number_of (slice_index_or plan.ports place p).number) past) (slice_index_or inputs place i).ending has.1 has.2 row.0.fits)
+      let row = (live.ports place p d within).0 in
+      let all = (slice_index_or inputs place i).arrivals in
+      let entered = arrived (number_of (slice_index_or plan.ports place p).number) past in
+      less weight entered row.0 (sum_by weight all)
+      (read_most weight blind (slice_index_or plan.ports place p).format (left (slice_index_or old_ports place d).source) (left (slice_index_or new_ports place d).source) has.0 all
+      (slice_index_or inputs place i).ending has.1 has.2 (entered ++ row.0) row.1 row.2.fits))
 
   lines_by : (weight : Line → ℕ) → ((reading : ℕ) (line : Line) → weight (control.stamped_at reading line) ≡ weight line)
       → (old new : Option (Ends S K C)) (given : Option control.Input) → ControlOf left written source_faults sink_faults readings plan base past old new → HasLines left old given

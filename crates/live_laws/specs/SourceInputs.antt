@@ -4,20 +4,18 @@ use Rattle.std.specs.Prelude.{◌≡◌, ℕ, ◌+◌, ◌<◌, true, List, leng
 use Rattle.savi_kinds.specs.declared.plan.Plan.{Plan}
 use Rattle.savi_kinds.specs.declared.plan.PortPlan.{PortPlan}
 use Rattle.savi_kinds.specs.declared.plan.Format.{Format}
-use Rattle.savi_kinds.specs.declared.plan.Format.TheVariants.{Pcap, Stream}
 use Rattle.savi_kinds.specs.Arrivals.{Input}
 use Rattle.savi_ends.specs.declared.world.Ends.{Ends}
+use Rattle.port_reader.specs.Inputs.{AreArrivals}
 use Rattle.cli_lang.specs.Arrivals as control
 use Rattle.checkpoint.specs.Bases.{Base}
 use Rattle.savi_history.specs.Vlans.{the_vlan}
 use Rattle.live_session.specs.LiveControl.{AreLiveLines}
-use Rattle.live_session.specs.LiveInputs.{AreCapture, AreStream}
 use Rattle.savi_laws.specs.Budgets.{given_count, given_octets, lines_of, arrivals_of, Suffices}
 
 -- these octets, read to their end, are this input of a port, by the port's form; the stamps of a stream are free
 abbrev pub IsGivenInput : Format → List ℕ → Input → Type 0
-IsGivenInput Pcap octets input = AreCapture true octets input.arrivals input.ending
-IsGivenInput Stream octets input = AreStream octets input.arrivals input.ending
+IsGivenInput format octets input = AreArrivals format true octets input.arrivals input.ending
 
 -- a port's source tells all octets that it has, and they are this input
 abbrev pub HasInput : {S : Type 0} → (S → Option (List ℕ)) → Format → S → Input → Type 0

@@ -1,4 +1,3 @@
-pub mod LiveInputs
 pub mod LiveOutputs
 pub mod LiveControl
 pub mod Ticking

@@ -17,23 +17,18 @@ use Rattle.savi_history.specs.ControlInputs.{entered_lines, control_end}
 use Rattle.savi_history.specs.ControlOutputs.{FitsRepliesAt}
 use Rattle.savi_history.specs.PortInputs.{arrived, input_end}
 use Rattle.savi_history.specs.PortOutputs.{output_end}
-use Rattle.live_session.specs.LiveControl.{AreLiveLines, line_stamps}
-use Rattle.live_session.specs.LiveInputs.{FitsInput, AreReadings, AreStamped, longest_reach}
+use Rattle.port_reader.specs.Judging.{EnteredRow}
+use Rattle.live_session.specs.LiveControl.{AreLiveLines, AreReadings, line_stamps}
 use Rattle.live_session.specs.LiveOutputs.{FitsOutputOf}
 use Rattle.live_session.specs.Ticking.{ticker_end, TickedUntil}
 
--- The source of a port: what it gave up are the arrivals that the history holds of the port, each once and in order, and
--- ends as the input ended there; from a place at fault on it gave up no more than the reader of its form reaches. Its clock
--- stamped them. It ended by a failed read exactly where its own faults rose.
-pub record IngressRow {S C : Type 0} (left : S → Option (List ℕ)) (faults : S → ℕ) (readings : C → Option (List ℕ))
-    (format : Format) (port : ℕ) (past : List Row) (old_source new_source : S) (old_clock new_clock : C) : Type 0 where
-  pub gave : (octets : List ℕ) × Takes (left old_source) (left new_source) octets
-  pub fits : FitsInput format (left old_source) (left new_source) (arrived port past) (input_end port past)
-  pub near : (at : ℕ) → input_end port past ≡ Some (hows.Malformed at) → length gave.0 ≤ at + longest_reach format
-  pub stamped : AreStamped format (readings old_clock) (readings new_clock) (arrived port past) (input_end port past)
-  pub later : faults old_source ≤ faults new_source
-  pub broken : input_end port past ≡ Some hows.Failed → Rose (faults old_source) (faults new_source)
-  pub still : input_end port past ≢ Some hows.Failed → faults new_source ≡ faults old_source
+-- The source and the clock of a port: all that its source gave up came to the port's judge, and the history holds a front of
+-- its arrivals, each once and in order. That is all of them, and the input ended there as it ended at the source; or, where
+-- the input is paused, those before one for which there was no room.
+abbrev pub IngressRow : {S C : Type 0} → (S → Option (List ℕ)) → (S → ℕ) → (C → Option (List ℕ)) → Format → ℕ → List Row
+    → S → S → C → C → Type 0
+IngressRow left faults readings format port past old_source new_source old_clock new_clock =
+    EnteredRow left faults readings format (arrived port past) (input_end port past) old_source new_source old_clock new_clock
 
 -- The sink of a port took what the history sends there. It ended by a failed write exactly where its own faults rose.
 pub record EgressRow {K : Type 0} (written : K → Option (List ℕ)) (faults : K → ℕ)

@@ -25,13 +25,13 @@ use Rattle.core_keep.proofs.Goings.{later_of}
 use Rattle.core_keep.proofs.PastsRead.{past_again}
 use Rattle.live_session.specs.LiveRows.{IngressRow, EgressRow}
 use Rattle.live_session.specs.LiveSession.{PortRow}
+use Rattle.live_session.proofs.RowsLater.{ingress_later, egress_later, control_later, ticker_later}
 use Rattle.live_turns.specs.Seats.{IsEndedPass, lock_plan}
 use Rattle.live_turns.proofs.Seating.{ended_stays}
 use Rattle.live_switch.specs.Joined.{GoesOn, ArePorts, LeftSo, HoldsAfter}
 use Rattle.live_switch.specs.Served.{IsInputServed, IsOutputServed, IsControlServed, IsTickerServed}
 use Rattle.live_switch.specs.Works.{IsOver}
 use Rattle.live_switch.proofs.Dealing.{at_front, at_end}
-use Rattle.live_switch.proofs.RowsLater.{ingress_later, egress_later, control_later, ticker_later}
 
 -- what holds of each of these holds of the last one, and of those before it
 front_part : {X : Type 0} (P : X → Type 0) (xs : List X) (x : X) → All P (xs ++ x ∷ []) → All P xs
@@ -83,10 +83,10 @@ module _ {S K C : Type 0} (left : S → Option (List ℕ)) (written : K → Opti
     row_here : (past : List Row) (p : PortPlan) → (port ≡ p.number) × (format ≡ p.format) → IsLegal (lock_plan lock) empty past → GoesOn past read.0 → GoesOn past wrote.0 → Rows past p x given_back
     row_here past p is legal goes_on goes_on_out = (
       subst (λ (f : Format × Port). IngressRow left source_faults readings f.0 (number_of f.1) past x.source read.1 x.clock read.2) (λ i. (is.1 i, is.0 i))
-          (ingress_later left written source_faults sink_faults readings (lock_plan lock) (past_seen read.0) past legal format (number_of port) x.source read.1 x.clock read.2
+          (ingress_later (lock_plan lock) empty (past_seen read.0) past legal left source_faults readings format (number_of port) x.source read.1 x.clock read.2
           (goes_on_of lock (Ingress port) read.0 past is_read.ended goes_on) is_read.row),
       subst (λ (f : Format × Port). EgressRow written sink_faults f.0 (lock_plan lock) empty (number_of f.1) past x.sink wrote.1) (λ i. (is.1 i, is.0 i))
-          (egress_later left written source_faults sink_faults readings (lock_plan lock) (past_seen wrote.0) past legal format (number_of port) x.sink wrote.1
+          (egress_later (lock_plan lock) empty (past_seen wrote.0) past legal written sink_faults format (number_of port) x.sink wrote.1
           (goes_on_of lock (Egress port) wrote.0 past is_written.ended goes_on_out) is_written.row),
     )
 
@@ -113,9 +113,9 @@ module _ {S K C : Type 0} (left : S → Option (List ℕ)) (written : K → Opti
       let P : Pass → Type 0 = GoesOn past in
       record {
         ports = record { size = refl; each = λ place p d within. absurd (omega arith) };
-        control = control_later left written source_faults sink_faults readings (lock_plan lock) (past_seen served.0) past legal old_control served.1
+        control = control_later (lock_plan lock) empty (past_seen served.0) past legal left written source_faults sink_faults readings old_control served.1
             (goes_on_of lock Control served.0 past is_served.ended (last_part P [] served.0 (front_part P ([] ++ served.0 ∷ []) ticked.0 all))) is_served.row;
-        ticker = ticker_later left written source_faults sink_faults readings (lock_plan lock) (past_seen ticked.0) past legal old_clock ticked.1
+        ticker = ticker_later (lock_plan lock) empty (past_seen ticked.0) past legal readings old_clock ticked.1
             (goes_on_of lock Ticker ticked.0 past is_ticked.ended (last_part P ([] ++ served.0 ∷ []) ticked.0 all)) is_ticked.row;
       }
 

@@ -1,4 +1,3 @@
-pub mod RowsLater
 pub mod Dealing
 pub mod Popped
 pub mod Seating

@@ -1,12 +1,16 @@
 -- What the workers of a port have beside its ends.
-use Rattle.std.specs.Prelude.{◌≡◌, ℕ, ◌<◌, List, length, slice_index_or}
+use Rattle.std.specs.Prelude.{◌≡◌, ℕ, ◌<◌, List, [], length, slice_index_or}
 use Rattle.savi_kinds.specs.declared.plan.PortPlan.{PortPlan}
+use Rattle.parcel_ring.specs.Sides.{AreTwoEnds, was_put, was_taken}
 use Rattle.live_switch.specs.declared.seats.Seat.{Seat}
 
--- the seat is of this port of the plan
+-- the seat is of this port of the plan, and has both ends of a ring through which nothing has gone yet
 pub record IsSeat (p : PortPlan) (seat : Seat) : Type 0 where
   pub port : seat.port ≡ p.number
   pub format : seat.format ≡ p.format
+  pub rings : AreTwoEnds seat.filler seat.taker
+  pub unfilled : was_put seat.filler ≡ []
+  pub untaken : was_taken seat.taker ≡ []
 
 -- these are the seats of the first ports
 pub record AreSeats (ports : List PortPlan) (count : ℕ) (seats : List Seat) : Type 0 where

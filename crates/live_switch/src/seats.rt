@@ -4,29 +4,40 @@ ghost use Rattle.std.specs.Prelude.{IfOk, length};
 ghost use Rattle.live_switch.specs.Seated.{AreSeats};
 
 use live_output::OutputRoom;
+use parcel_ring::{ParcelFiller, ParcelRing, ParcelTaker};
 use savi_kinds::{Format, Plan, Port};
 use std::alloc::{AllocError, Global};
+use std::sync::Wait;
 
-/// A port of the plan, the form of what is read and written there, and room for what is written at once.
+/// So many arrivals of a port may wait for their judge.
+const RING_DEPTH: u32 = 64;
+
+/// A port of the plan, the form of what is read and written there, room for what is written at once, and the two ends of the
+/// ring by which arrivals go from the port's reader to its judge.
 #[derive(Drop)]
 pub(crate) struct Seat {
     pub(crate) port: Port,
     pub(crate) format: Format,
     pub(crate) room: OutputRoom,
+    pub(crate) filler: ParcelFiller,
+    pub(crate) taker: ParcelTaker,
 }
 
-/// A seat for each port of a plan, in its order. `Err` is want of memory.
-pub(crate) fn seats_of(alloc: Global, plan: &Plan) -> Result<Vec<Seat>, AllocError>
+/// A seat for each port of a plan, in its order, some 100 KB for the ring of each. `Err` is want of memory.
+pub(crate) fn seats_of<R: Wait>(rt: &R, alloc: Global, plan: &Plan) -> Result<Vec<Seat>, AllocError>
     ensures { IfOk result (λ seats. AreSeats plan.now.ports (length plan.now.ports) seats.items) }
 {
     let ports = plan.ports.as_slice();
     let mut seats = Vec::with_capacity(alloc, ports.len())?;
     for port in ports {
         let room = OutputRoom::make(alloc)?;
+        let (filler, taker) = ParcelRing::make(rt, alloc, RING_DEPTH)?;
         seats.push_reserved(Seat {
             port: port.number,
             format: port.format,
             room,
+            filler,
+            taker,
         });
     }
     Ok(seats)

@@ -1,28 +1,32 @@
 //! The session, and the start of its workers.
 
-ghost use Rattle.std.specs.Prelude.{◌≡◌, IfErr, IfOk, length, vec_len};
+ghost use Rattle.std.specs.Prelude.{◌≡◌, [], IfErr, IfOk, length, vec_len};
 ghost use Rattle.std.specs.Thread.{IsSync};
 ghost use Rattle.savi_kinds.specs.ValidPlan.{IsValidPlan};
-ghost use Rattle.savi_kinds.specs.declared.entry.Who.TheVariants.{Control, Egress, Ingress, Ticker};
+ghost use Rattle.savi_kinds.specs.declared.entry.Who.TheVariants.{Control, Egress, Ticker};
 ghost use Rattle.checkpoint.specs.Bases.{empty};
 ghost use Rattle.savi_history.specs.Passes.{pass_count};
 ghost use Rattle.savi_core.specs.Machines.{base_of};
 ghost use Rattle.table_lock.specs.Passes.{lock_seats};
+ghost use Rattle.parcel_ring.specs.Sides.{was_put};
+ghost use Rattle.port_reader.specs.Readers.{HasFilled};
 ghost use Rattle.live_session.specs.LiveSession.{IsLive};
 ghost use Rattle.live_turns.specs.Seats.{IsNewPass, lock_base, lock_plan};
 ghost use Rattle.live_switch.specs.Dealt.{AreFor};
-ghost use Rattle.live_switch.specs.Served.{IsControlServed, IsInputServed, IsTickerServed, IsOutputServed};
+ghost use Rattle.live_input.specs.Judged.{CanJudge, HasJudged};
+ghost use Rattle.live_switch.specs.Served.{IsControlServed, IsTickerServed, IsOutputServed};
 ghost use Rattle.live_switch.specs.Works.{IsDone, IsReadyWork};
 
 use crate::ready::{Closed, Ready};
 use crate::seats::seats_of;
-use crate::work::{Back, Work, put_port, take_port};
+use crate::work::{Back, PortWorkers, Work, put_port, take_port};
 use core_keep::KeptCore;
 use live_control::ControlWorker;
-use live_input::IngressWorker;
+use live_input::Ingress;
 use live_output::Output;
 use live_ticker::TickerWorker;
 use live_turns::Gate;
+use port_reader::Reader;
 use savi_core::Reply;
 use savi_ends::{Clock, Sink, Source};
 use savi_kinds::Plan;
@@ -31,13 +35,13 @@ use std::sync::Wait;
 use std::thread::{Threads, join};
 use table_lock::{Pass, TableLock};
 
-/// Runs a switch of this plan over the ends of its ports, of control and of the ticker, each served by a worker of its own:
-/// an input is read, an output written, control answered, and the ticker's clock read, side by side where threads can be
-/// made. The gate sees each turn at the switch before it is taken.
+/// Runs a switch of this plan over the ends of its ports, of control and of the ticker, each served by workers of its own: an
+/// input is read and judged, an output written, control answered, and the ticker's clock read, side by side where threads can
+/// be made. The gate sees each turn at the switch before it is taken.
 ///
 /// The switch comes back with its history, and each end in its place. All memory is taken before anything is read or
-/// written: where there is none the ends come back as they were, and that is the only `Err`. Nothing is promised of how long
-/// it goes on.
+/// written, for each port some 100 KB for what waits to be judged: where there is none the ends come back as they were, and
+/// that is the only `Err`. Nothing is promised of how long it goes on.
 pub fn session<
     R: Threads + Wait + Sync,
     G: Gate,
@@ -58,7 +62,7 @@ pub fn session<
     ensures base { IfOk result (λ closed. base_of closed.core ≡ empty) }
     ensures live { IfOk result (λ closed. IsLive S.left K.written S.faults K.faults C.readings plan empty closed.core.past ready.ports.items closed.ready.ports.items ready.control closed.ready.control ready.ticker closed.ready.ticker) }
 {
-    let Ok(seats) = seats_of(alloc, &plan) else {
+    let Ok(seats) = seats_of(rt, alloc, &plan) else {
         return Err(ready);
     };
     let Ok(reply) = Reply::make(alloc) else {
@@ -111,9 +115,10 @@ fn lock_of(alloc: Global, plan: Plan) -> Result<(TableLock<KeptCore>, Vec<Pass>)
     }
 }
 
-// Runs the workers of these ports, of control and of the ticker: the input of the last port beside all others. Where no
+// Runs the workers of these ports, of control and of the ticker: the reader of the last port beside all others. Where no
 // thread can be made, `join` calls its second closure and then its first. So the inputs end first, the last port's before
-// the others', then control, the ticker and the outputs, and a session ends on one thread too.
+// the others', and each is read before it is judged; then come control, the ticker and the outputs. A session ends on one
+// thread too, unless an input has as many arrivals as its ring has room for, or more: its reader then waits for its judge.
 #[cycle(runs)]
 fn run_all<
     R: Threads + Wait + Sync,
@@ -128,25 +133,77 @@ fn run_all<
     if work.ports.len() == 0 {
         return run_last(rt, lock, gate, work);
     }
-    let (reader, writer, rest) = take_port(work);
-    let ((back, writer), reader) = join(
+    let (workers, rest) = take_port(work);
+    let PortWorkers {
+        reader,
+        judge,
+        writer,
+    } = workers;
+    let ((back, judge, writer), reader) = join(
+        rt,
+        move || -> (Back<S, K, C>, Ingress, Output<K>)
+            requires sync { IsSync R.row }
+            requires rest { IsReadyWork lock.now rest }
+            requires judge { CanJudge lock.now judge }
+            requires writer { IsNewPass lock.now (Egress writer.port) writer.pass }
+            ensures rest { IsDone S.left K.written S.faults K.faults C.readings lock.entry.now rest result.0 }
+            ensures judge { HasJudged lock.entry.now judge result.1 }
+            ensures writer { IsOutputServed K.written K.faults lock.entry.now writer.port writer.format writer.sink (result.2.pass, result.2.sink) }
+        { run_judged(rt, lock, gate, rest, judge, writer) },
+        move || -> Reader<S, C>
+            requires { was_put reader.filler ≡ [] }
+            ensures { HasFilled S.left S.faults C.readings reader result }
+        { reader.run(rt) },
+    );
+    let workers = PortWorkers {
+        reader,
+        judge,
+        writer,
+    };
+    put_port(rt, back, workers)
+}
+
+// Runs the workers of these ports, of control and of the ticker, and beside them the judge and the output of a port.
+#[cycle(runs)]
+fn run_judged<
+    R: Threads + Wait + Sync,
+    G: Gate,
+    S: Source + Send + Drop,
+    K: Sink + Send + Drop,
+    C: Clock + Send + Drop,
+>(
+    rt: &R,
+    lock: &TableLock<KeptCore>,
+    gate: &G,
+    work: Work<S, K, C>,
+    judge: Ingress,
+    writer: Output<K>,
+) -> (Back<S, K, C>, Ingress, Output<K>)
+    requires work { IsReadyWork lock.now work }
+    requires judge { CanJudge lock.now judge }
+    requires writer { IsNewPass lock.now (Egress writer.port) writer.pass }
+    ensures work { IsDone S.left K.written S.faults K.faults C.readings lock.now work result.0 }
+    ensures judge { HasJudged lock.now judge result.1 }
+    ensures writer { IsOutputServed K.written K.faults lock.now writer.port writer.format writer.sink (result.2.pass, result.2.sink) }
+{
+    let ((back, writer), judge) = join(
         rt,
         move || -> (Back<S, K, C>, Output<K>)
             requires sync { IsSync R.row }
-            requires rest { IsReadyWork lock.now rest }
+            requires work { IsReadyWork lock.now work }
             requires writer { IsNewPass lock.now (Egress writer.port) writer.pass }
-            ensures rest { IsDone S.left K.written S.faults K.faults C.readings lock.entry.now rest result.0 }
+            ensures work { IsDone S.left K.written S.faults K.faults C.readings lock.entry.now work result.0 }
             ensures writer { IsOutputServed K.written K.faults lock.entry.now writer.port writer.format writer.sink (result.1.pass, result.1.sink) }
-        { run_rest(rt, lock, gate, rest, writer) },
-        move || -> IngressWorker<S, C>
-            requires { IsNewPass lock.now (Ingress reader.port) reader.pass }
-            ensures { IsInputServed S.left S.faults C.readings lock.entry.now reader.port reader.format reader.source reader.clock (result.pass, result.source, result.clock) }
-        { reader.run(rt, lock, gate) },
+        { run_rest(rt, lock, gate, work, writer) },
+        move || -> Ingress
+            requires { CanJudge lock.now judge }
+            ensures { HasJudged lock.entry.now judge result }
+        { judge.run(rt, lock, gate) },
     );
-    put_port(back, reader, writer)
+    (back, judge, writer)
 }
 
-// Runs the workers of these ports, of control and of the ticker, and beside them that of an output.
+// Runs the workers of these ports, of control and of the ticker, and beside them the output of a port.
 #[cycle(runs)]
 fn run_rest<
     R: Threads + Wait + Sync,

@@ -25,6 +25,8 @@ use Rattle.savi_conf.specs.declared.fault.ConfFault.{ConfFault}
 use Rattle.savi_conf.specs.declared.fault.ConfFault.TheVariants.{NoMemory}
 use Rattle.savi_conf.specs.Answers.{IsAnswer}
 use Rattle.savi_conf.proofs.OneAnswer.{one_answer}
+use Rattle.port_reader.specs.Inputs.{AreArrivals}
+use Rattle.port_reader.specs.Judging.{EnteredRow}
 use Rattle.cli_lang.specs.Arrivals as control
 use Rattle.hist_store.specs.Rows.{Row}
 use Rattle.journal_check.specs.declared.answer.Checked.{Checked}
@@ -34,10 +36,10 @@ use Rattle.checkpoint.specs.Bases.{empty}
 use Rattle.savi_history.specs.ControlFits.{FitsControl}
 use Rattle.savi_history.specs.ControlInputs.{control_end, entered_lines}
 use Rattle.savi_history.specs.Endings.{has_failed, has_failed_write, has_malformed, has_paused_end, is_failed_reason, is_malformed_reason}
+use Rattle.savi_history.specs.Fits.{Fits}
 use Rattle.savi_history.specs.PortInputs.{arrived, input_end}
 use Rattle.savi_segments.specs.Unbroken.{unbroken}
 use Rattle.live_session.specs.LiveControl.{AreLiveLines}
-use Rattle.live_session.specs.LiveInputs.{FitsInput}
 use Rattle.port_worker.specs.ControlServed.{AreLines}
 use Rattle.run_config.specs.Configs.{EndHasFault, OfText}
 use Rattle.run_config.specs.Words.{IsReplay, IsServe, IsLearn}
@@ -57,7 +59,7 @@ use Rattle.switch_run.proofs.LearnFaults.{ends_among}
 use Rattle.switch_run.proofs.Faulting.{ended_alone, no_input, unwritten_fault}
 use Rattle.switch_run.proofs.LegalFailures.{number_of_place, plan_element}
 use Rattle.switch_run.proofs.LegalFaults.{IsMalformedAt, paused_has_no_room, legal_malformed, segments_malformed}
-use Rattle.switch_run.proofs.WholeInputs.{both_told, lines_not_malformed, live_not_malformed, told_of, whole_not_heard_malformed, whole_not_malformed}
+use Rattle.switch_run.proofs.WholeInputs.{both_told, lines_not_malformed, live_not_malformed, told_of, whole_not_entered_malformed, whole_not_heard_malformed, whole_not_replayed_malformed}
 
 -- statuses
 
@@ -182,9 +184,9 @@ module _ {S K C : Type 0} (left : S → Option (List ℕ)) (written : K → Opti
     replay_at (inl (k, how, inside, reason, is)) =
         let n = get_or (numbers_of s.plan.ports) k 0 in
         let at = s.session.did.serves.each k no_input inside in
-        let fits : FitsInput Pcap (left at.handed.source) (left at.back.source) (arrived n rows) (Some how) =
-        subst (λ (e : Option How). FitsInput Pcap (left at.handed.source) (left at.back.source) (arrived n rows) e) is at.holds.fits in
-        whole_not_malformed Pcap (left at.handed.source) (left at.back.source) (arrived n rows) how reason fits
+        let fits : Fits (AreArrivals Pcap) (left at.handed.source) (left at.back.source) (arrived n rows) (Some how) =
+        subst (λ (e : Option How). Fits (AreArrivals Pcap) (left at.handed.source) (left at.back.source) (arrived n rows) e) is at.holds.fits in
+        whole_not_replayed_malformed (left at.handed.source) (left at.back.source) (arrived n rows) how reason fits
         (told_of (λ (e : Ends S K C). left e.source) (IsWholeInput Pcap) (ports_in s.plan old n) at.handed at.told (told_capture left old s.plan (s.configured.built.captures refl) whole.ports k inside))
     replay_at (inr (how, reason, is)) =
         control_place left written source_faults sink_faults s.plan segments how s.plan.control s.session.did.serves.lines s.session.did.serves.stops.control old.control new.control s.session.did.serves.control
@@ -227,9 +229,10 @@ module _ {S K C : Type 0} (left : S → Option (List ℕ)) (written : K → Opti
           let p = get_or s.plan.ports k d in
           let at = s.session.ports k d inside in
           let ended = subst (λ (n : ℕ). input_end n s.session.past ≡ Some how) (number_of_place s.plan k d inside) is in
-          let fits : FitsInput p.format (left at.handed.source) (left at.back.source) (arrived (number_of p.number) s.session.past) (Some how) =
-          subst (λ (e : Option How). FitsInput p.format (left at.handed.source) (left at.back.source) (arrived (number_of p.number) s.session.past) e) ended at.holds.0.fits in
-          whole_not_malformed p.format (left at.handed.source) (left at.back.source) (arrived (number_of p.number) s.session.past) how reason fits
+          let entered = arrived (number_of p.number) s.session.past in
+          let row : EnteredRow left source_faults readings p.format entered (Some how) at.handed.source at.back.source at.handed.clock at.back.clock =
+          subst (λ (e : Option How). EnteredRow left source_faults readings p.format entered e at.handed.source at.back.source at.handed.clock at.back.clock) ended at.holds.0 in
+          whole_not_entered_malformed left source_faults readings p.format entered how at.handed.source at.back.source at.handed.clock at.back.clock reason row
           (told_of (λ (e : Ends S K C). left e.source) (IsWholeInput p.format) (ports_in s.plan old (number_of p.number)) at.handed at.told (whole.ports k d inside))
       live_at (inr (how, reason, is)) = live_place s.plan s.session.past how s.plan.control old.control new.control s.session.control whole.control is reason
 

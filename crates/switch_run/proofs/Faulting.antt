@@ -9,6 +9,8 @@ use Rattle.savi_kinds.specs.ValidPlan.{numbers_of}
 use Rattle.savi_ends.specs.declared.world.Std.TheVariants.{Out}
 use Rattle.savi_ends.specs.declared.world.Ends.{Ends}
 use Rattle.savi_ends.specs.Places.{Place, Book, PortKey, ControlKey}
+use Rattle.port_reader.specs.Judging.{EndsBehind}
+use Rattle.port_reader.proofs.Meeting.{ends_as}
 use Rattle.cli_lang.specs.Arrivals as control
 use Rattle.hist_store.specs.Rows.{Row}
 use Rattle.checkpoint.specs.Bases.{empty}
@@ -170,7 +172,9 @@ module _ {S K C : Type 0} (left : S → Option (List ℕ)) (written : K → Opti
       let d = plan_element plan.ports k inside in
       let p = get_or plan.ports k d in
       let at = r.ports k d inside in
-      let rose = at.holds.0.broken (subst (λ (n : ℕ). input_end n r.past ≡ Some hows.Failed) (number_of_place plan k d inside) is) in
+      let row = at.holds.0 in
+      let ended : input_end (number_of p.number) r.past ≡ Some hows.Failed = subst (λ (n : ℕ). input_end n r.past ≡ Some hows.Failed) (number_of_place plan k d inside) is in
+      let rose = row.2.broken (ends_as row.0 row.1 hows.Failed (λ same. cc) (subst (λ (e : Option How). EndsBehind row.0 row.1 e) ended row.3)) in
       inl (key_among plan.ports (number_of p.number), fault_kept (λ (e : Ends S K C). source_faults e.source) (ports_in plan new (number_of p.number)) at.back at.kept (omega (arith, rose)))
   live_read_at (inr is) =
       let ends = has_live left written source_faults sink_faults readings plan r.past plan.control hows.Failed old.control new.control r.control is (λ e. cc) in

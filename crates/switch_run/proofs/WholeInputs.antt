@@ -1,5 +1,5 @@
 -- What is a whole input isn't malformed too.
-use Rattle.std.proofs.Common.{◌≡◌, ℕ, ◌||◌, Bool, true, false, List, [], ◌∷◌, map, refl, sym, ap, ◌∙◌, subst, ◌⊎◌, inl, inr, Option, Some, None, IfSome, IsSomeAnd}
+use Rattle.std.proofs.Common.{◌≡◌, ◌≢◌, ℕ, ◌||◌, Bool, true, false, List, [], ◌∷◌, ◌++◌, map, refl, sym, ap, ◌∙◌, subst, ◌⊎◌, inl, inr, Option, Some, None, IfSome, IsSomeAnd}
 use Rattle.std.specs.List.{list_any}
 use Rattle.std.proofs.lemmas.List.Folds.{list_any_none}
 use Rattle.savi_kinds.specs.declared.plan.Format.{Format}
@@ -13,15 +13,17 @@ use Rattle.pcap_io.specs.Runs.{Arrive}
 use Rattle.pcap_io.proofs.Uniqueness as captures
 use Rattle.stream_io.specs.Streams as stream
 use Rattle.stream_io.proofs.Uniqueness as streams
+use Rattle.port_reader.specs.Inputs.{AreArrivals, FitsRead, IsReadWhole}
+use Rattle.port_reader.specs.Judging.{EnteredRow}
+use Rattle.port_reader.proofs.Meeting.{ends_as}
 use Rattle.cli_lang.specs.Arrivals.{Line, IsRun, stamped_by}
 use Rattle.cli_lang.specs.Arrivals as control
 use Rattle.cli_lang.proofs.Uniqueness as lines_once
 use Rattle.savi_history.specs.ControlFits.{FitsControl, HasNoQuit}
 use Rattle.savi_history.specs.ControlInputs.{is_quit}
 use Rattle.savi_history.specs.Endings.{is_malformed_reason}
-use Rattle.savi_history.specs.Fits.{IsWhole}
+use Rattle.savi_history.specs.Fits.{Fits, IsWhole}
 use Rattle.live_session.specs.LiveControl.{AreLiveLines}
-use Rattle.live_session.specs.LiveInputs.{AreCapture, AreStream, FitsInput}
 use Rattle.port_worker.specs.ControlServed.{AreLines}
 use Rattle.port_worker.specs.Served.{IsInputOf}
 use Rattle.run_config.specs.Configs.{OfText}
@@ -36,40 +38,52 @@ not_end how reason same = let end : false ≡ true = ap is_malformed_reason same
 abbrev input_of : List Arrival → How → Input
 input_of arrivals ending = record { arrivals = arrivals; ending = ending }
 
-capture_once : (octets : List ℕ) (whole other : List Arrival) (how : How) → AreCapture true octets whole hows.End → AreCapture true octets other how → hows.End ≡ how
-capture_once octets whole other how one also =
+arrivals_once : (format : Format) (octets : List ℕ) (whole other : List Arrival) (how : How) → AreArrivals format true octets whole hows.End → AreArrivals format true octets other how → hows.End ≡ how
+arrivals_once Pcap octets whole other how one also =
     ap (λ (i : Input). i.ending) (captures.one_input classic_kinds true octets (input_of whole hows.End) (input_of other how) one also)
-
-stream_once : (octets : List ℕ) (whole other : List Arrival) (how : How) → AreStream octets whole hows.End → AreStream octets other how → hows.End ≡ how
-stream_once octets whole other how one also =
+arrivals_once Stream octets whole other how one also =
     let first : stream.Arrive true [] octets (input_of [] hows.End) = record { whole = whole; run = one; stamps = refl } in
     let second : stream.Arrive true [] octets (input_of [] how) = record { whole = other; run = also; stamps = refl } in
     ap (λ (i : Input). i.ending) (streams.one_input true [] octets (input_of [] hows.End) (input_of [] how) first second)
 
-capture_at : (before : Option (List ℕ)) (arrivals : List Arrival) (how : How) → is_malformed_reason how ≡ true → IsWhole (AreCapture true) before arrivals how → IsSomeAnd before (IsWholeInput Pcap) → ⊥
-capture_at None arrivals how reason fits whole = whole
-capture_at (Some octets) arrivals how reason fits whole = not_end how reason (capture_once octets whole.0 arrivals how whole.1 fits)
+read_to_end : (format : Format) (before : Option (List ℕ)) (arrivals : List Arrival) (how : How) → is_malformed_reason how ≡ true → IsReadWhole format before arrivals how → IsSomeAnd before (IsWholeInput format) → ⊥
+read_to_end format None arrivals how reason fits whole = whole
+read_to_end format (Some octets) arrivals how reason fits whole = not_end how reason (arrivals_once format octets whole.0 arrivals how whole.1 fits)
 
-stream_at : (before : Option (List ℕ)) (arrivals : List Arrival) (how : How) → is_malformed_reason how ≡ true → IsWhole AreStream before arrivals how → IsSomeAnd before (IsWholeInput Stream) → ⊥
-stream_at None arrivals how reason fits whole = whole
-stream_at (Some octets) arrivals how reason fits whole = not_end how reason (stream_once octets whole.0 arrivals how whole.1 fits)
-
-pub whole_not_malformed : (format : Format) (before after : Option (List ℕ)) (arrivals : List Arrival) (how : How) → is_malformed_reason how ≡ true → FitsInput format before after arrivals (Some how) → IsSomeAnd before (IsWholeInput format) → ⊥
+pub whole_not_malformed : (format : Format) (before after : Option (List ℕ)) (arrivals : List Arrival) (how : How) → is_malformed_reason how ≡ true → FitsRead format before after arrivals how → IsSomeAnd before (IsWholeInput format) → ⊥
 whole_not_malformed format before after arrivals hows.End reason fits whole = cc
 whole_not_malformed format before after arrivals hows.Quit reason fits whole = cc
-whole_not_malformed Pcap before after arrivals (hows.Malformed at) reason fits whole = capture_at before arrivals (hows.Malformed at) reason fits whole
-whole_not_malformed Stream before after arrivals (hows.Malformed at) reason fits whole = stream_at before arrivals (hows.Malformed at) reason fits whole
-whole_not_malformed Pcap before after arrivals (hows.Overlong at) reason fits whole = fits
-whole_not_malformed Stream before after arrivals (hows.Overlong at) reason fits whole = fits
+whole_not_malformed format before after arrivals (hows.Malformed at) reason fits whole = read_to_end format before arrivals (hows.Malformed at) reason fits whole
+whole_not_malformed format before after arrivals (hows.Overlong at) reason fits whole = fits
 whole_not_malformed format before after arrivals hows.Failed reason fits whole = cc
 whole_not_malformed format before after arrivals hows.Unwritten reason fits whole = cc
 whole_not_malformed format before after arrivals hows.Paused reason fits whole = cc
 
--- the same of an input that learning heard
+-- the same of what was entered of an input in a live session
+pub whole_not_entered_malformed : {S C : Type 0} (left : S → Option (List ℕ)) (faults : S → ℕ) (readings : C → Option (List ℕ)) (format : Format) (entered : List Arrival) (how : How) (source source' : S) (clock clock' : C) → is_malformed_reason how ≡ true
+    → EnteredRow left faults readings format entered (Some how) source source' clock clock' → IsSomeAnd (left source) (IsWholeInput format) → ⊥
+whole_not_entered_malformed left faults readings format entered how source source' clock clock' reason row whole =
+    let same : row.1 ≡ how = ends_as row.0 row.1 how (not_paused how reason) row.3 in
+    whole_not_malformed format (left source) (left source') (entered ++ row.0) row.1 (ap is_malformed_reason same ∙ reason) row.2.fits whole
+  where
+    not_paused : (how : How) → is_malformed_reason how ≡ true → how ≢ hows.Paused
+    not_paused how reason same = let never : true ≡ false = sym reason ∙ ap is_malformed_reason same in cc
+
+-- of that of a replay
+pub whole_not_replayed_malformed : (before after : Option (List ℕ)) (arrivals : List Arrival) (how : How) → is_malformed_reason how ≡ true → Fits (AreArrivals Pcap) before after arrivals (Some how) → IsSomeAnd before (IsWholeInput Pcap) → ⊥
+whole_not_replayed_malformed before after arrivals hows.End reason fits whole = cc
+whole_not_replayed_malformed before after arrivals hows.Quit reason fits whole = cc
+whole_not_replayed_malformed before after arrivals (hows.Malformed at) reason fits whole = read_to_end Pcap before arrivals (hows.Malformed at) reason fits whole
+whole_not_replayed_malformed before after arrivals (hows.Overlong at) reason fits whole = fits
+whole_not_replayed_malformed before after arrivals hows.Failed reason fits whole = cc
+whole_not_replayed_malformed before after arrivals hows.Unwritten reason fits whole = cc
+whole_not_replayed_malformed before after arrivals hows.Paused reason fits whole = cc
+
+-- and of that which learning heard
 pub whole_not_heard_malformed : (before after : Option (List ℕ)) (ended_so : Option How) (arrivals : List Arrival) (how : How) → is_malformed_reason how ≡ true → IsInputOf (Arrive classic_kinds) before after ended_so arrivals how → IsSomeAnd before (IsWholeInput Pcap) → ⊥
 whole_not_heard_malformed before after ended_so arrivals hows.End reason gave whole = cc
 whole_not_heard_malformed before after ended_so arrivals hows.Quit reason gave whole = cc
-whole_not_heard_malformed before after ended_so arrivals (hows.Malformed at) reason gave whole = capture_at before arrivals (hows.Malformed at) reason gave whole
+whole_not_heard_malformed before after ended_so arrivals (hows.Malformed at) reason gave whole = read_to_end Pcap before arrivals (hows.Malformed at) reason gave whole
 whole_not_heard_malformed before after ended_so arrivals (hows.Overlong at) reason gave whole = gave
 whole_not_heard_malformed before after ended_so arrivals hows.Failed reason gave whole = cc
 whole_not_heard_malformed before after ended_so arrivals hows.Unwritten reason gave whole = cc

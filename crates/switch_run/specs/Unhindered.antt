@@ -3,7 +3,6 @@ use Rattle.std.specs.Prelude.{◌≡◌, ◌≢◌, ◌⊎◌, ◌↔◌, ℕ, B
 use Rattle.std.specs.List.{list_any}
 use Rattle.savi_kinds.specs.declared.plan.Plan.{Plan}
 use Rattle.savi_kinds.specs.declared.plan.Format.{Format}
-use Rattle.savi_kinds.specs.declared.plan.Format.TheVariants.{Pcap, Stream}
 use Rattle.savi_kinds.specs.declared.entry.How.{How}
 use Rattle.savi_kinds.specs.declared.entry.How.TheVariants as hows
 use Rattle.savi_kinds.specs.Arrivals.{Arrival}
@@ -12,13 +11,13 @@ use Rattle.savi_ends.specs.declared.world.Std.TheVariants.{Out}
 use Rattle.savi_ends.specs.Places.{Place, Book}
 use Rattle.savi_conf.specs.Answers.{IsAnswer}
 use Rattle.pcapng_io.specs.Runs.{Event, Arrive}
+use Rattle.port_reader.specs.Inputs.{AreArrivals}
 use Rattle.cli_lang.specs.Arrivals.{Line, IsRun}
 use Rattle.hist_store.specs.Rows.{Row}
 use Rattle.savi_history.specs.ControlInputs.{is_quit}
 use Rattle.savi_history.specs.Endings.{has_paused_end}
 use Rattle.savi_history.specs.Limits.{has_room}
 use Rattle.journal_check.specs.Laws.{IsFinishedJournal}
-use Rattle.live_session.specs.LiveInputs.{AreCapture, AreStream}
 use Rattle.run_config.specs.Configs.{EndHasFault, OfText}
 use Rattle.run_config.specs.Words.{IsCheck, IsGen, IsLearn, IsReplay, IsServe, IsSplitWords}
 use Rattle.switch_ports.specs.Named.{control_key}
@@ -32,8 +31,7 @@ Tells left place Holds = IsSomeAnd place.stands (λ told. IsSomeAnd (left told) 
 
 -- these octets are a whole input of this format: a capture, or the records of a stream, up to its end
 abbrev pub IsWholeInput : Format → List ℕ → Type 0
-IsWholeInput Pcap octets = (arrivals : List Arrival) × AreCapture true octets arrivals hows.End
-IsWholeInput Stream octets = (arrivals : List Arrival) × AreStream octets arrivals hows.End
+IsWholeInput format octets = (arrivals : List Arrival) × AreArrivals format true octets arrivals hows.End
 
 -- these octets are lines of control, live or not: whole ones up to their end, or one of them is `quit`
 pub record AreWholeLines (live : Bool) (octets : List ℕ) : Type 0 where

@@ -2,11 +2,11 @@ ghost use Rattle.std.specs.Prelude.{◌≡◌, ◌≤◌};
 
 use crate::board::{Board, MADE, Place, SERVING, TICKET, TICKETS_END};
 use crate::kept::Kept;
-use crate::lock::sleeping::Sleeper;
 use crate::pass::Pass;
 use crate::plays::{Draw, Look, Make, PassOn, Together};
 use crate::turn::Held;
 use crossbeam_utils::Backoff;
+use sleeper::Sleeper;
 use std::sync::{Mutex, Wait};
 
 mod make;

@@ -9,78 +9,14 @@ ghost use Rattle.std.specs.Prelude.{◌≡◌};
 use crate::kept::Kept;
 use crate::lock::TableLock;
 use crate::pass::Pass;
+use sleeper::Sleeper;
 use std::alloc::{AllocError, Global};
 use std::snapshot::Snapshot;
 use std::sync::Wait;
-use std::sync::atomic::{AtomicBool, Ordering};
-use std::thread::{Parker, yield_now};
 use std::time::Duration;
 
 /// A lock has so many places to sleep at.
 const PLACES: usize = 34;
-
-/// So often a thread looks whether it was woken before it sleeps, and lets others run in between: some 50 microseconds where
-/// no other has anything to do. What comes within that time needs no call of the system to wake it.
-const LOOKS: u32 = 150;
-
-/// A place to sleep at: whether who sleeps there was woken since its last sleep, whether it sleeps in the system now, and
-/// whether its last sleep ended because it was woken.
-#[derive(Drop)]
-pub(crate) struct Sleeper {
-    woken: AtomicBool,
-    parked: AtomicBool,
-    busy: AtomicBool,
-    parker: Parker,
-}
-
-impl Sleeper {
-    fn new() -> Sleeper {
-        Sleeper {
-            woken: AtomicBool::new(false),
-            parked: AtomicBool::new(false),
-            busy: AtomicBool::new(false),
-            parker: Parker::new(),
-        }
-    }
-
-    fn sleep<R: Wait>(&self, rt: &R, most: Duration) {
-        let is_woken = self.is_woken_soon() || self.is_woken_later(rt, most);
-        self.busy.store(is_woken, Ordering::SeqCst);
-        self.woken.store(false, Ordering::SeqCst);
-    }
-
-    // Looks for a while whether it was woken, where the last sleep ended so.
-    fn is_woken_soon(&self) -> bool {
-        if !self.busy.load(Ordering::SeqCst) {
-            return false;
-        }
-        for _ in 0..LOOKS {
-            if self.woken.load(Ordering::SeqCst) {
-                return true;
-            }
-            yield_now();
-        }
-        false
-    }
-
-    // Sleeps in the system until it is woken, for so long at most. Who wakes it writes `woken` before reading `parked`, and
-    // here it is the other way round: one of both sees what the other wrote.
-    fn is_woken_later<R: Wait>(&self, rt: &R, most: Duration) -> bool {
-        self.parked.store(true, Ordering::SeqCst);
-        if !self.woken.load(Ordering::SeqCst) {
-            self.parker.park_timeout(rt, most);
-        }
-        self.parked.store(false, Ordering::SeqCst);
-        self.woken.load(Ordering::SeqCst)
-    }
-
-    fn wake(&self) {
-        self.woken.store(true, Ordering::SeqCst);
-        if self.parked.load(Ordering::SeqCst) {
-            self.parker.unpark();
-        }
-    }
-}
 
 // Places where nobody sleeps yet.
 pub(crate) fn places(alloc: Global) -> Result<Vec<Sleeper>, AllocError> {

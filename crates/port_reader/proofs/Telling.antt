@@ -1,5 +1,5 @@
--- What a reader took, arrival after arrival, and how that fits the history once its input has ended.
-use Rattle.std.proofs.Common.{◌≡◌, ◌⊎◌, ℕ, ◌+◌, ◌<◌, ◌≤◌, ◌^◌, length, Bool, true, false, List, [], ◌∷◌, ◌++◌, refl, sym, subst, ap, ◌∙◌, append-nil, append_assoc, Option, Some, None, IfSome, inl, inr, take}
+-- What a reader took, arrival after arrival, and how that fits its source once the input has ended.
+use Rattle.std.proofs.Common.{◌≡◌, ℕ, ◌+◌, ◌≤◌, length, true, false, List, [], ◌∷◌, ◌++◌, refl, sym, subst, ap, ◌∙◌, append-nil, append_assoc, Option, Some, None, inl, inr, take}
 use Rattle.savi_kinds.specs.declared.plan.Format.{Format}
 use Rattle.savi_kinds.specs.declared.plan.Format.TheVariants as forms
 use Rattle.savi_kinds.specs.declared.entry.How.{How}
@@ -13,14 +13,11 @@ use Rattle.pcap_io.specs.Readers as captures
 use Rattle.pcap_io.proofs.CallsJoined as joined
 use Rattle.stream_io.specs.Streams.{IsRun}
 use Rattle.stream_io.specs.Readers as streams
-use Rattle.stream_io.proofs.AheadHeld.{takes_none}
-use Rattle.stream_io.proofs.Existence.{some_later}
-use Rattle.savi_history.specs.Fits.{IsWhole}
 use Rattle.input_read.specs.Readers.{Answers, HasFailed, IsNew}
 use Rattle.input_read.specs.declared.reader.InputReader.{InputReader}
 use Rattle.input_read.specs.declared.reader.InputReader.TheVariants as readers
-use Rattle.live_session.specs.LiveInputs.{AreCapture, AreStream, FitsInput, IsBrokenStream, IsCutStream, longest_reach}
-use Rattle.live_input.specs.Progress.{HasRead, octets_taken, reader_form}
+use Rattle.port_reader.specs.Inputs.{FitsRead, IsReadBroken, IsReadWhole, record_reach}
+use Rattle.port_reader.specs.Progress.{HasRead, octets_taken, input_form}
 
 -- one arrival was read
 abbrev pub IsOne : InputReader → InputReader → List ℕ → Arrival → Type 0
@@ -41,21 +38,8 @@ one_long (readers.Stream old) (readers.Stream new) gave buf left stamp len answe
 one_long (readers.Pcap old) (readers.Stream new) gave buf left stamp len answers = answers
 one_long (readers.Stream old) (readers.Pcap new) gave buf left stamp len answers = answers
 
--- a frame has at most 1,518 octets, and a longer one more
-pub frame_size : (old new : InputReader) (gave buf : List ℕ) (left : Option (List ℕ)) (stamp len : ℕ) → Answers old new gave buf left (next.Frame stamp len) → len ≤ 1518
-frame_size (readers.Pcap old) (readers.Pcap new) gave buf left stamp len answers = answers.0
-frame_size (readers.Stream old) (readers.Stream new) gave buf left stamp len answers = answers.0
-frame_size (readers.Pcap old) (readers.Stream new) gave buf left stamp len answers = absurd answers
-frame_size (readers.Stream old) (readers.Pcap new) gave buf left stamp len answers = absurd answers
-
-pub long_size : (old new : InputReader) (gave buf : List ℕ) (left : Option (List ℕ)) (stamp len : ℕ) → Answers old new gave buf left (next.Long stamp len) → 1518 < len
-long_size (readers.Pcap old) (readers.Pcap new) gave buf left stamp len answers = answers.0
-long_size (readers.Stream old) (readers.Stream new) gave buf left stamp len answers = answers.0
-long_size (readers.Pcap old) (readers.Stream new) gave buf left stamp len answers = absurd answers
-long_size (readers.Stream old) (readers.Pcap new) gave buf left stamp len answers = absurd answers
-
 -- a reader keeps its form where it reads an arrival, and no read has failed
-pub one_form : (old new : InputReader) (gave : List ℕ) (arrival : Arrival) → IsOne old new gave arrival → reader_form new ≡ reader_form old
+pub one_form : (old new : InputReader) (gave : List ℕ) (arrival : Arrival) → IsOne old new gave arrival → input_form new ≡ input_form old
 one_form (readers.Pcap old) (readers.Pcap new) gave arrival one = refl
 one_form (readers.Stream old) (readers.Stream new) gave arrival one = refl
 one_form (readers.Pcap old) (readers.Stream new) gave arrival one = absurd one
@@ -81,7 +65,7 @@ new_taken forms.Stream (readers.Pcap state) new = absurd new
 new_taken forms.Stream (readers.Stream state) new = ap streams.octets_taken new
 
 -- and no more from a place at fault on than of one record
-pub fault_near : (at place : ℕ) (old new : InputReader) (gave buf : List ℕ) (left : Option (List ℕ)) → Answers old new gave buf left (next.Malformed at) → hows.Malformed at ≡ hows.Malformed place → octets_taken old + length gave ≤ place + longest_reach (reader_form old)
+pub fault_near : (at place : ℕ) (old new : InputReader) (gave buf : List ℕ) (left : Option (List ℕ)) → Answers old new gave buf left (next.Malformed at) → hows.Malformed at ≡ hows.Malformed place → octets_taken old + length gave ≤ place + record_reach (input_form old)
 fault_near at place (readers.Pcap old) (readers.Pcap new) gave buf left answers same = answers.near place same
 fault_near at place (readers.Stream old) (readers.Stream new) gave buf left answers same = answers.2 place same
 fault_near at place (readers.Pcap old) (readers.Stream new) gave buf left answers same = absurd answers
@@ -94,7 +78,7 @@ read_none forms.Pcap (readers.Stream state) new = absurd new
 read_none forms.Stream (readers.Pcap state) new = absurd new
 read_none forms.Stream (readers.Stream state) new = subst (λ (s : streams.State). streams.HasRead (streams.Running 0 []) s [] []) (sym new) (λ seen rest later ending comes. comes)
 
-pub new_form : (format : Format) (reader : InputReader) → IsNew format reader → reader_form reader ≡ format
+pub new_form : (format : Format) (reader : InputReader) → IsNew format reader → input_form reader ≡ format
 new_form forms.Pcap (readers.Pcap state) new = refl
 new_form forms.Pcap (readers.Stream state) new = absurd new
 new_form forms.Stream (readers.Pcap state) new = absurd new
@@ -125,7 +109,7 @@ some_same : {A : Type 0} {a b : A} → Some a ≡ Some b → a ≡ b
 some_same e = cc
 
 -- where a stream ended: its arrivals are all that its source had left
-stream_whole : (before mid now : Option (List ℕ)) (state new : streams.State) (arrivals : List Arrival) (gave more : List ℕ) (ending : How) → Takes before mid gave → streams.HasRead (streams.Running 0 []) state gave arrivals → Takes mid now more → streams.HasEnded state new more now ending → IsWhole AreStream before arrivals ending
+stream_whole : (before mid now : Option (List ℕ)) (state new : streams.State) (arrivals : List Arrival) (gave more : List ℕ) (ending : How) → Takes before mid gave → streams.HasRead (streams.Running 0 []) state gave arrivals → Takes mid now more → streams.HasEnded state new more now ending → IsReadWhole forms.Stream before arrivals ending
 stream_whole None mid now state new arrivals gave more ending took read takes has = tt
 stream_whole (Some octets) mid None state new arrivals gave more ending took read takes has =
     let none : Some octets ≡ None = took ∙ ap (λ (o : Option (List ℕ)). in_front gave o) takes in absurd cc
@@ -139,31 +123,16 @@ stream_whole (Some octets) mid (Some rest) state new arrivals gave more ending t
     subst (λ (t : List ℕ × List Arrival). IsRun true 0 t.1 ending t.0) (λ i. (sym all i, append-nil arrivals i)) run
 
 -- where a read of it failed: they are all the records that it gave
-stream_broken : (before mid now : Option (List ℕ)) (state : streams.State) (arrivals : List Arrival) (gave more : List ℕ) → Takes before mid gave → streams.HasRead (streams.Running 0 []) state gave arrivals → Takes mid now more → streams.Comes false state more (streams.ended hows.Failed) → IsBrokenStream before now arrivals
+stream_broken : (before mid now : Option (List ℕ)) (state : streams.State) (arrivals : List Arrival) (gave more : List ℕ) → Takes before mid gave → streams.HasRead (streams.Running 0 []) state gave arrivals → Takes mid now more → streams.Comes false state more (streams.ended hows.Failed) → IsReadBroken forms.Stream before now arrivals
 stream_broken before mid now state arrivals gave more took read takes comes = record {
   gave = gave ++ more;
   takes = takes_more gave more _ _ _ took takes;
-  run = subst (λ (t : List Arrival). IsRun false 0 t hows.Failed (gave ++ more)) (append-nil arrivals) (read false more [] hows.Failed comes);
+  read = subst (λ (t : List Arrival). IsRun false 0 t hows.Failed (gave ++ more)) (append-nil arrivals) (read false more [] hows.Failed comes);
 }
-
--- where there was no room for the last one
-stream_cut : (before now : Option (List ℕ)) (state : streams.State) (arrivals : List Arrival) (x : Arrival) (gave : List ℕ) → Takes before now gave → streams.HasRead (streams.Running 0 []) state gave (arrivals ++ x ∷ []) → IsCutStream before now arrivals
-stream_cut before now state arrivals x gave takes read =
-    let some = some_later false state [] in
-    let run = read false [] some.0.arrivals some.0.ending some.1 in
-    record {
-      gave = gave;
-      takes = takes;
-      refused = x;
-      behind = some.0.arrivals;
-      ending = some.0.ending;
-      run = subst (λ (t : List ℕ × List Arrival). IsRun false 0 t.1 some.0.ending t.0)
-          (λ i. (append-nil gave i, append_assoc arrivals (x ∷ []) some.0.arrivals i)) run;
-    }
 
 module _ (before mid now : Option (List ℕ)) (gave more buf : List ℕ) (arrivals : List Arrival) (took : Takes before mid gave) (takes : Takes mid now more) where
   -- the input ended behind a whole record
-  pub fits_end : (old new : InputReader) → HasRead old gave arrivals → Answers old new more buf now next.End → FitsInput (reader_form old) before now arrivals (Some hows.End)
+  pub fits_end : (old new : InputReader) → HasRead old gave arrivals → Answers old new more buf now next.End → FitsRead (input_form old) before now arrivals hows.End
   fits_end (readers.Pcap old) (readers.Pcap new) read answers =
       joined.whole_input (captures.Fresh classic_kinds) old new gave more arrivals before now hows.End read answers (takes_more gave more _ _ _ took takes)
   fits_end (readers.Stream old) (readers.Stream new) read answers = stream_whole before mid now old new arrivals gave more hows.End took read takes answers
@@ -171,7 +140,7 @@ module _ (before mid now : Option (List ℕ)) (gave more buf : List ℕ) (arriva
   fits_end (readers.Stream old) (readers.Pcap new) read answers = absurd answers
 
   -- or it is malformed behind its arrivals
-  pub fits_malformed : (at : ℕ) (old new : InputReader) → HasRead old gave arrivals → Answers old new more buf now (next.Malformed at) → FitsInput (reader_form old) before now arrivals (Some (hows.Malformed at))
+  pub fits_malformed : (at : ℕ) (old new : InputReader) → HasRead old gave arrivals → Answers old new more buf now (next.Malformed at) → FitsRead (input_form old) before now arrivals (hows.Malformed at)
   fits_malformed at (readers.Pcap old) (readers.Pcap new) read answers =
       joined.whole_input (captures.Fresh classic_kinds) old new gave more arrivals before now (hows.Malformed at) read answers (takes_more gave more _ _ _ took takes)
   fits_malformed at (readers.Stream old) (readers.Stream new) read answers = stream_whole before mid now old new arrivals gave more (hows.Malformed at) took read takes answers
@@ -179,7 +148,7 @@ module _ (before mid now : Option (List ℕ)) (gave more buf : List ℕ) (arriva
   fits_malformed at (readers.Stream old) (readers.Pcap new) read answers = absurd answers
 
   -- or a read failed behind them
-  pub fits_failed : (old new : InputReader) → HasRead old gave arrivals → Answers old new more buf now next.Failed → FitsInput (reader_form old) before now arrivals (Some hows.Failed)
+  pub fits_failed : (old new : InputReader) → HasRead old gave arrivals → Answers old new more buf now next.Failed → FitsRead (input_form old) before now arrivals hows.Failed
   fits_failed (readers.Pcap old) (readers.Pcap new) read answers =
       record {
         gave = gave ++ more;
@@ -189,21 +158,3 @@ module _ (before mid now : Option (List ℕ)) (gave more buf : List ℕ) (arriva
   fits_failed (readers.Stream old) (readers.Stream new) read answers = stream_broken before mid now old arrivals gave more took read takes answers.1
   fits_failed (readers.Pcap old) (readers.Stream new) read answers = absurd answers
   fits_failed (readers.Stream old) (readers.Pcap new) read answers = absurd answers
-
-  -- or there was no room for the arrival that was read then
-  pub fits_full : (x : Arrival) (old new : InputReader) → HasRead old gave arrivals → IsOne old new more x → FitsInput (reader_form old) before now arrivals (Some hows.Paused)
-  fits_full x (readers.Pcap old) (readers.Pcap new) read one =
-      let both = joined.has_read_more (captures.Fresh classic_kinds) old new gave more arrivals (x ∷ []) read one.read in
-      let rest : captures.Comes new true [] (record { arrivals = []; ending = hows.End }) =
-      subst (λ (s : captures.State). captures.Comes s true [] (record { arrivals = []; ending = hows.End })) (sym one.running.1) (refl, refl) in
-      record {
-        gave = gave ++ more;
-        takes = takes_more gave more _ _ _ took takes;
-        refused = x;
-        read = subst (λ (t : List ℕ × List Arrival). AreCapture true t.0 t.1 hows.End)
-            (λ i. (append-nil (gave ++ more) i, append-nil (arrivals ++ x ∷ []) i)) (both true [] [] hows.End rest);
-      }
-  fits_full x (readers.Stream old) (readers.Stream new) read one =
-      stream_cut before now new arrivals x (gave ++ more) (takes_more gave more _ _ _ took takes) (stream_more old new gave more arrivals x read one)
-  fits_full x (readers.Pcap old) (readers.Stream new) read one = absurd one
-  fits_full x (readers.Stream old) (readers.Pcap new) read one = absurd one

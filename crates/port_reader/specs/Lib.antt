@@ -1,0 +1,5 @@
+pub mod Inputs
+pub mod Rows
+pub mod Progress
+pub mod Readers
+pub mod Judging
