@@ -17,12 +17,12 @@ type Line<T> = RuledArrayQueue<T, Log<T>, InOrder>;
 /// An end that can't go on sleeps for so long at most, in ms, whether or not it is woken.
 pub(crate) const SLEEP_MOST_MS: u64 = 100;
 
-/// What both ends share: the queue, and a place to sleep at for each.
+/// What both ends share: the queue, and a place to sleep at for each. Who has a share of the taker's place may wake it too.
 #[derive(Drop)]
 pub(crate) struct Ring<T> {
     pub(crate) line: Line<T>,
     pub(crate) filler: Sleeper,
-    pub(crate) taker: Sleeper,
+    pub(crate) taker: Arc<Sleeper, Global>,
 }
 
 /// The making and the closing of rings.
@@ -36,6 +36,7 @@ impl IntakeRing {
         ensures paired { IfOk result (λ r. ArePaired r.0 r.1) }
         ensures new { IfOk result (λ r. (put_of r.0 ≡ []) × (taken_of r.1 ≡ [])) }
     {
+        let place = Arc::new(alloc, Sleeper::new())?;
         let (line, mut pass): (Line<T>, Pass<T, Log<T>>) = RuledArrayQueue::ruled(
             alloc,
             depth as usize,
@@ -46,7 +47,7 @@ impl IntakeRing {
             Ring {
                 line,
                 filler: Sleeper::new(),
-                taker: Sleeper::new(),
+                taker: place,
             },
         )?;
         let theirs = Arc::try_clone(&ring)?;

@@ -8,7 +8,8 @@ use crate::ring::{Ring, SLEEP_MOST_MS};
 use crate::rule::{Log, Seen, Takes};
 use crossbeam_queue::Pass;
 use crossbeam_queue::protocol::Lesson;
-use std::alloc::Global;
+use sleeper::Sleeper;
+use std::alloc::{AllocError, Global};
 use std::sync::{Arc, Wait};
 use std::time::Duration;
 
@@ -45,6 +46,23 @@ impl<T> Taker<T> {
                 self.pop::<Seen, R>(rt)
             }
         }
+    }
+
+    /// Takes the oldest item, and waits for none. None says that the ring was empty at one moment of the call, behind all
+    /// that was put by then. It takes no memory. O(1), and a call of the system where the end that puts sleeps in it.
+    pub fn try_take<R: Wait>(&mut self, rt: &R) -> Option<T>
+        ensures ring { taker_ring self.new ≡ taker_ring self.old }
+        ensures taken { MatchOption result (taken_of self.new ≡ taken_of self.old)
+            (λ x. taken_of self.new ≡ taken_of self.old ++ x ∷ []) }
+        ensures none { MatchOption result (Held 0 (WerePut (taken_of self.old))) (λ x. ⊤) }
+    {
+        self.pop::<Seen, R>(rt)
+    }
+
+    /// The place at which this end sleeps where there is nothing to take, so that others may wake it too. It takes no
+    /// memory, and is refused only where the place has 2^63 - 1 shares. O(1).
+    pub fn sleeper(&self) -> Result<Arc<Sleeper, Global>, AllocError> {
+        Arc::try_clone(&self.ring.taker)
     }
 
     // Takes the oldest item, and wakes the other end where that is due. None tells what is learned of an empty ring.

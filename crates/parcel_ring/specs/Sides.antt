@@ -20,6 +20,10 @@ was_put filler = contents (put_of filler.full)
 abbrev pub was_taken : ParcelTaker → List Handed
 was_taken taker = contents (taken_of taker.full)
 
+-- the boxes that this end gave back so far, in order, and those that came with the ring
+abbrev pub given_back : ParcelTaker → List (Box Handed Global)
+given_back taker = put_of taker.spare
+
 -- the two rings of an end: the one by which parcels go, and the one by which they come back
 abbrev pub filler_rings : ParcelFiller → TableId × TableId
 filler_rings filler = (filler_ring filler.full, taker_ring filler.spare)

@@ -1,13 +1,12 @@
 -- Reader and judge meet: of two inputs that came whole the one that is in front of the other is all of it.
-use Rattle.std.proofs.Common.{◌≡◌, ◌≢◌, ℕ, Bool, true, false, true≢false, List, [], ◌∷◌, ◌++◌, Option, Some, refl, sym, subst, ap, ◌∙◌}
+use Rattle.std.proofs.Common.{◌≡◌, ℕ, Bool, true, false, true≢false, List, [], ◌∷◌, ◌++◌, Option, Some, refl, sym, subst, ap, ◌∙◌}
 use mathlib.Core.List.{IsPrefix}
 use Rattle.savi_kinds.specs.declared.plan.Format.{Format}
 use Rattle.savi_kinds.specs.declared.entry.How.{How}
-use Rattle.savi_kinds.specs.declared.entry.How.TheVariants as hows
 use Rattle.savi_kinds.specs.Arrivals.{Arrival}
 use Rattle.parcel_ring.specs.Handed.{Handed, Arrived, Ended}
 use Rattle.port_reader.specs.Rows.{InputRow, WasPut, whole}
-use Rattle.port_reader.specs.Judging.{EndsBehind, JudgesAll, EnteredRow}
+use Rattle.port_reader.specs.Judging.{JudgesSo, EnteredRow}
 
 abbrev first_of : Handed → List Handed → Handed
 first_of x [] = x
@@ -40,19 +39,12 @@ one_end (a ∷ taken) (b ∷ arrivals) how ending rest same =
     (ap (λ (x : Arrival). x ∷ taken) first ∙ ap (λ (l : List Arrival). b ∷ l) more.0, more.1)
 
 module _ {S C : Type 0} (left : S → Option (List ℕ)) (faults : S → ℕ) (readings : C → Option (List ℕ)) (format : Format) (source new_source : S) (clock new_clock : C) where
-  pub ends_meet : (put taken : List Handed) (entered : List Arrival) (ended : Option How) → WasPut left faults readings format put source new_source clock new_clock → JudgesAll entered ended taken → IsPrefix taken put
-      → EnteredRow left faults readings format entered ended source new_source clock new_clock
-  ends_meet put taken entered ended was_put judged front =
-      let all = entered ++ judged.0 in
-      let met : whole all judged.1 ++ front.0 ≡ whole was_put.0 was_put.1 = ap (λ (l : List Handed). l ++ front.0) (sym judged.2) ∙ front.1 ∙ was_put.2 in
-      let one = one_end all was_put.0 judged.1 was_put.1 front.0 met in (
-        judged.0,
-        was_put.1,
-        subst (λ (l : List Arrival). InputRow left faults readings format l was_put.1 source new_source clock new_clock) (sym one.0) was_put.3,
-        subst (λ (h : How). EndsBehind judged.0 h ended) one.1 judged.3,
+  pub ends_meet : (put taken : List Handed) (kept : Option Handed) (entered : List Arrival) (ending : How) → WasPut left faults readings format put source new_source clock new_clock → JudgesSo entered (Some ending) taken kept → IsPrefix taken put
+      → EnteredRow left faults readings format entered (Some ending) source new_source clock new_clock
+  ends_meet put taken kept entered ending was_put judged front =
+      let met : whole entered ending ++ front.0 ≡ whole was_put.0 was_put.1 = ap (λ (l : List Handed). l ++ front.0) (sym judged.0) ∙ front.1 ∙ was_put.2 in
+      let one = one_end entered was_put.0 ending was_put.1 front.0 met in (
+        ending,
+        refl,
+        subst (λ (t : List Arrival × How). InputRow left faults readings format t.0 t.1 source new_source clock new_clock) (λ i. (sym one.0 i, sym one.1 i)) was_put.3,
       )
-
--- what was entered is said to have ended as the input did, unless it is paused
-pub ends_as : (behind : List Arrival) (ending how : How) → how ≢ hows.Paused → EndsBehind behind ending (Some how) → ending ≡ how
-ends_as [] ending how other ends = cc
-ends_as (x ∷ behind) ending how other ends = absurd (other cc)

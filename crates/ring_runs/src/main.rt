@@ -8,7 +8,7 @@ mod numbers;
 mod parcels;
 mod sleeping;
 
-use numbers::{hand_over_numbers, take_of_nothing};
+use numbers::{hand_over_numbers, take_at_once, take_of_nothing};
 use parcels::hand_over_frames;
 use sleeping::{is_kept_asleep, is_woken};
 use std::io;
@@ -28,6 +28,7 @@ fn main(rt: HostRuntime) -> io::Result<()> {
         "nothing in an empty ring: {}",
         take_of_nothing(&rt, alloc)?
     )?;
+    println!(rt; "taken at once: {}", take_at_once(&rt, alloc)?)?;
     println!(rt; "asleep without a wake: {}", is_kept_asleep(&rt)?)?;
     println!(rt; "woken: {}", is_woken(&rt)?)
 }

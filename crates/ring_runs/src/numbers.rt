@@ -2,8 +2,10 @@
 ghost use Rattle.std.specs.Prelude.{◌≡◌};
 ghost use Rattle.intake_ring.specs.Sides.{filler_ring, taker_ring};
 
+use crate::sleeping::is_sleep_ended;
 use intake_ring::{Filler, IntakeRing, Taker};
 use std::alloc::{AllocError, Global};
+use std::io;
 use std::sync::Wait;
 use std::thread::{Threads, join, sleep};
 use std::time::{Clock, Duration};
@@ -73,10 +75,22 @@ pub fn hand_over_numbers<R: Threads + Wait + Clock + Sync>(
     Ok(in_order)
 }
 
-/// Whether nothing is taken from an empty ring.
+/// Whether nothing is taken from an empty ring, with a wait and without.
 pub fn take_of_nothing<R: Wait>(rt: &R, alloc: Global) -> Result<bool, AllocError> {
     let (filler, mut taker) = IntakeRing::make(alloc, 1)?;
+    let tried: Option<u32> = taker.try_take(rt);
     let taken: Option<u32> = taker.take(rt);
     IntakeRing::close(rt, filler, taker);
-    Ok(taken.is_none())
+    Ok(tried.is_none() && taken.is_none())
+}
+
+/// Whether a number that was put is taken without a wait, and who sleeps at the taker's place was woken by the put.
+pub fn take_at_once<R: Wait + Clock>(rt: &R, alloc: Global) -> io::Result<bool> {
+    let (mut filler, mut taker) = IntakeRing::make(alloc, 1)?;
+    let place = taker.sleeper()?;
+    filler.put(rt, 1);
+    let is_woken = is_sleep_ended(rt, &place)?;
+    let taken: Option<u32> = taker.try_take(rt);
+    IntakeRing::close(rt, filler, taker);
+    Ok(is_woken && taken == Some(1))
 }

@@ -26,6 +26,13 @@ pub fn is_kept_asleep<R: Wait + Clock>(rt: &R) -> io::Result<bool> {
     Ok(start.elapsed(rt)? >= Duration::from_millis(ALONE_MS))
 }
 
+/// Whether a sleep that would be long ends early.
+pub fn is_sleep_ended<R: Wait + Clock>(rt: &R, place: &Sleeper) -> io::Result<bool> {
+    let start = Instant::now(rt)?;
+    place.sleep(rt, Duration::from_secs(SLEEP_SECS));
+    Ok(start.elapsed(rt)? < Duration::from_secs(WOKEN_WITHIN_SECS))
+}
+
 /// Whether two sleeps end early, one of which another thread ends, and one of which was ended before it began.
 pub fn is_woken<R: Threads + Wait + Clock + Sync>(rt: &R) -> io::Result<bool> {
     let sleeper = Sleeper::new();

@@ -15,6 +15,7 @@ mod sleeping;
 pub use sleeping::Woken;
 
 /// A value under a lock that its passes take in turns, by ticket. `admission` is held by the pass that has a ticket.
+#[derive(Drop)]
 pub struct TableLock<V: Kept> {
     pub(crate) table: Board<V>,
     pub(crate) admission: Mutex<()>,

@@ -62,7 +62,7 @@ unwrap-requires g c =
     let value : c.take-value.result ≡ Some e.value = some-injective c.take-value.result (Some e.value) (sym c.take-value.ensures.value ∙ e.slot) in
     subst (λ (o : Option g.row.V.Denot). IsSome o) (sym value) refl
 
-told : (g : Over) (c : goal.After-drop-passes g) → Closes g.V.Kept.history g.V.Kept.fixed (g.V.Kept.fixed c.args.self.table.shared.key.0.value) c.args.self.table.shared.key.1 c.args.passes.items c.unwrap.result
+told : (g : Over) (c : goal.After-drop-self g) → Closes g.V.Kept.history g.V.Kept.fixed (g.V.Kept.fixed c.args.self.table.shared.key.0.value) c.args.self.table.shared.key.1 c.args.passes.items c.unwrap.result
 told g c =
     let i = c.loop-pass.invariant in
     let empty : length c.loop-pass.passes.items ≡ 0 = let z = c.in_default.ensures.cases.0 in let long = c.loop-pass.passes.ok in omega arith in

@@ -1,0 +1,8 @@
+use Rattle.std.proofs.Common.{ap, ◌∙◌}
+use Rattle.std.proofs.lemmas.List.{map-append}
+use Rattle.intake_ring.specs.Sides.{put_of}
+use Rattle.control_reader.specs.Heard.{all_heard, line_heard_of}
+use Rattle.control_reader.proofs.reader.put_end.Goals as goal
+
+pub returns-clause-put : goal.returns-clause-put
+returns-clause-put g c = ap all_heard c.put.ensures.put ∙ map-append line_heard_of (put_of c.args.filler.now) _
