@@ -3,3 +3,5 @@ pub mod Fronts
 pub mod Giving
 pub mod Reading
 pub mod Lines
+pub mod FewEnds
+pub mod Telling

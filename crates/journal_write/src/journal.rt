@@ -50,6 +50,7 @@ impl<K> Journal<K> {
 
 impl<K: Sink> Journal<K> {
     ghost use Rattle.std.specs.Prelude.{◌≡◌, ◌≤◌, ◌++◌, ◌∷◌, [], ℕ, List, length, All};
+    ghost use Rattle.savi_kinds.specs.declared.plan.Plan.{Plan};
     ghost use Rattle.savi_kinds.specs.ValidPlan.{IsValidPlan};
     ghost use Rattle.hist_store.specs.Rows.{Row};
     ghost use Rattle.hist_store.specs.LineTexts.{FitsLine};
@@ -61,16 +62,28 @@ impl<K: Sink> Journal<K> {
     ghost use Rattle.savi_core.specs.Machines.{base_of};
     ghost use Rattle.journal_write.specs.Written.{HasText, IsSettled};
 
-    /// Puts the header of a plan, behind which no segment stands yet. It may wait until a segment is closed. O(ports + prefixes).
+    /// Puts the header of a plan, behind which no segment stands yet, and writes it at once: so a run that is killed in its
+    /// first segment leaves no journal of the run before. O(ports + prefixes).
     pub fn begin(&mut self, plan: &Plan)
         requires valid { IsValidPlan plan.now }
         requires room { 3401 ≤ self.old.buffer.room }
         ensures room { self.new.buffer.room ≡ self.old.buffer.room }
+        ensures settled { IsSettled self.new }
         ensures begun { (first : K) → HasText K.written K.faults first self.old [] → HasText K.written K.faults first self.new (journal_of plan.now []) }
     {
         let mut line = JournalLine::new();
         put_header(plan, &mut line);
-        self.put(line.as_slice());
+        self.begin_with(line.as_slice());
+    }
+
+    /// Does the same with the text of the header, which was made before (`put_header`). O(n) in its octets.
+    pub fn begin_with(&mut self, header: &[u8])
+        requires short { length header.now ≤ self.old.buffer.room }
+        ensures room { self.new.buffer.room ≡ self.old.buffer.room }
+        ensures settled { IsSettled self.new }
+        ensures begun { (first : K) (plan : Plan) → header.now ≡ journal_of plan [] → HasText K.written K.faults first self.old [] → HasText K.written K.faults first self.new (journal_of plan []) }
+    {
+        self.put_at_once(header);
     }
 
     /// Puts the history of a switch as one more segment, behind the segments that left what it goes on from, and writes all that
@@ -89,8 +102,7 @@ impl<K: Sink> Journal<K> {
         self.put(line.as_slice());
         self.put_entries(core.history(), &mut line);
         put_end(core.len(), &mut line);
-        self.put(line.as_slice());
-        self.settle();
+        self.put_at_once(line.as_slice());
     }
 
     // Puts the lines of what the history of a switch goes on from.
@@ -122,6 +134,17 @@ impl<K: Sink> Journal<K> {
             line.push(b'\n');
             self.put(line.as_slice());
         }
+    }
+
+    // Puts a piece, and writes it with all that waits.
+    fn put_at_once(&mut self, piece: &[u8])
+        requires { length piece.now ≤ self.old.buffer.room }
+        ensures room { self.new.buffer.room ≡ self.old.buffer.room }
+        ensures settled { IsSettled self.new }
+        ensures text { (first : K) (text : List ℕ) → HasText K.written K.faults first self.old text → HasText K.written K.faults first self.new (text ++ piece.now) }
+    {
+        self.put(piece);
+        self.settle();
     }
 
     // Puts a piece, unless a write failed before.

@@ -43,7 +43,7 @@ use Rattle.port_worker.proofs.Allowed.{allowed_itself}
 use Rattle.port_worker.proofs.KeptOutputs.{KeepsOutput, keeps_same, keeps_then, keeps_control, keeps_in, keeps_pieces, output_kept}
 use Rattle.port_worker.proofs.Pieces.{took_then, took_until}
 use Rattle.port_worker.proofs.PortSteps.{stopped_less, not_stopped, stopped_more}
-use Rattle.port_worker.proofs.Unbroken.{shows}
+use Rattle.savi_segments.proofs.HowEnded.{shows}
 
 -- a line, whose probes join no queue whose egress has ended
 no_probes : (plan : Plan) (base : Base) (past : List Row) (line : Line) (q : ℕ) → has_ended base (egress_pass plan q) past ≡ true → queue plan base q (with_command plan base line past) ≡ queue plan base q past

@@ -19,8 +19,9 @@ use Rattle.savi_segments.specs.Replay.{Run, base_in, has_ended_in, run_with, seg
 use Rattle.savi_segments.specs.Segments.{joined}
 use Rattle.savi_segments.specs.Sent.{FitsOutputIn, before_last_drain_in, sent_in}
 use Rattle.savi_segments.specs.Unbroken.{unbroken, without_pauses}
+use Rattle.savi_segments.proofs.Adjoined.{said_over}
 use Rattle.port_worker.specs.Outputs.{IsOutput, IsOutputEnded}
-use Rattle.port_worker.proofs.Unbroken.{IsUnpaused, alike_in, output_said, said_over}
+use Rattle.port_worker.proofs.Unbroken.{IsUnpaused, alike_in, output_said}
 
 -- an output that is closed, paused or not, has taken all
 closed_fits : (before after : Option (List ℕ)) (output sure : List ℕ) (paused : Bool) → after ≡ behind before output → FitsOutput before after output sure (Some (if paused then hows.Paused else hows.End))

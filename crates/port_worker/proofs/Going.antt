@@ -33,13 +33,13 @@ use Rattle.port_worker.specs.Replays.{ports_held, ports_planned}
 use Rattle.port_worker.specs.SentFrames.{OnlySink}
 use Rattle.port_worker.specs.Served.{ServesEnds}
 use Rattle.port_worker.specs.Steps.{HasRoomFor, IsStepped, ahead_after, ends_input}
-use Rattle.port_worker.specs.Told.{TellsOf, passes_over}
+use Rattle.journal_write.specs.Told.{TellsOf, passes_over}
 use Rattle.port_worker.specs.Turnings.{AreTurned, StandsAt, turn_next}
 use Rattle.port_worker.proofs.Alike.{IsAlike}
 use Rattle.port_worker.proofs.ControlRunning.{control_weighs, control_weight}
 use Rattle.port_worker.proofs.ControlTurns.{ControlNext, Turned, control_next}
 use Rattle.port_worker.proofs.Ending.{inputs_ended, serves}
-use Rattle.port_worker.proofs.FewEnds.{counts_told}
+use Rattle.journal_write.proofs.FewEnds.{counts_told}
 use Rattle.port_worker.proofs.Fitting.{FitsSoFar, fits_looked}
 use Rattle.port_worker.proofs.Making.{next_port}
 use Rattle.port_worker.proofs.Measures.{undone, undone_looked}

@@ -32,7 +32,7 @@ use Rattle.savi_segments.specs.Unbroken.{unbroken, without_pauses}
 use Rattle.savi_segments.proofs.OutputSteps.{said_if}
 use Rattle.port_worker.specs.Drains.{with_failed}
 use Rattle.port_worker.specs.Outputs.{IsOutput}
-use Rattle.port_worker.proofs.Unbroken.{shows}
+use Rattle.savi_segments.proofs.HowEnded.{shows}
 
 pub record KeepsOutput (plan : Plan) (base : Base) (n : ℕ) (past now : List Row) : Type 0 where
   pub sent_same : sent plan base n now ≡ sent plan base n past

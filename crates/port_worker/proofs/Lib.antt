@@ -36,12 +36,10 @@ pub mod ControlAdvancing
 pub mod Advancing
 pub mod Finishing
 pub mod Alike
-pub mod FewEnds
 pub mod LinesLeft
 pub mod RowsHeld
 pub mod Unbroken
 pub mod Unpaused
-pub mod Telling
 pub mod Pausing
 pub mod Going
 pub mod Journalling

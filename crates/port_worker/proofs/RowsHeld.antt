@@ -19,7 +19,8 @@ use Rattle.savi_segments.specs.Replay.{Run, base_in, has_ended_in, run_with, seg
 use Rattle.savi_segments.specs.Segments.{joined}
 use Rattle.savi_segments.specs.Sent.{replies_in}
 use Rattle.savi_segments.specs.Unbroken.{unbroken, without_pauses}
-use Rattle.port_worker.proofs.Unbroken.{IsUnpaused, alike_in, arrived_said, control_said, input_said, lines_said, said_over}
+use Rattle.savi_segments.proofs.Adjoined.{said_over}
+use Rattle.port_worker.proofs.Unbroken.{IsUnpaused, alike_in, arrived_said, control_said, input_said, lines_said}
 
 -- what all segments hold of inputs: their rows, but for pauses
 abbrev pub rows_of : Run → List Row

@@ -14,6 +14,5 @@ pub mod Replays
 pub mod ControlServed
 pub mod Served
 pub mod Turnings
-pub mod Told
 pub mod Journalled
 pub mod Replayed

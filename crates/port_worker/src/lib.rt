@@ -17,7 +17,6 @@ mod looking;
 mod outputs;
 mod port_ends;
 mod session;
-mod told;
 mod turns;
 
 pub use choice::next_of;
@@ -25,5 +24,4 @@ pub use control_ends::ControlEnds;
 pub use looking::look_all;
 pub use port_ends::{PortEnds, PortTurn};
 pub use session::{Closed, Ready, replay_session};
-pub use told::{ENDS_MOST, EndsTold, Told};
 pub use turns::replay;

@@ -7,15 +7,14 @@ ghost use Rattle.port_worker.specs.LineInputs.{IsControlUnheard};
 ghost use Rattle.port_worker.specs.Replays.{ports_held, ports_planned, IsUnread};
 ghost use Rattle.port_worker.specs.Replayed.{HasReplayed};
 ghost use Rattle.port_worker.specs.Served.{IsSamePort, ServesEnds};
-ghost use Rattle.port_worker.specs.Told.{TellsOf};
+ghost use Rattle.journal_write.specs.Told.{TellsOf};
 ghost use Rattle.savi_core.specs.Machines.{started};
 ghost use Rattle.port_worker.specs.Journalled.{GivesSink, TookJournal};
 
 use crate::control_ends::ControlEnds;
 use crate::port_ends::PortEnds;
-use crate::told::{EndsTold, Told};
 use crate::turns::replay;
-use journal_write::{Buffer, JOURNAL_PIECE_OCTETS, Journal};
+use journal_write::{Buffer, EndsTold, JOURNAL_PIECE_OCTETS, Journal, Told};
 use savi_core::{Batch, Core, Reply};
 use savi_ends::{Clock, Sink, Source};
 use savi_kinds::Plan;

@@ -29,7 +29,7 @@ ghost use Rattle.port_worker.specs.ControlOutputs.{IsControlTurn, IsControlAdvan
 ghost use Rattle.port_worker.specs.Replays.{ports_held, ports_planned, IsUnread};
 ghost use Rattle.port_worker.specs.Served.{IsSamePort, ServesEnds};
 ghost use Rattle.port_worker.specs.Turnings.{AreTurned, StandsAt, turn_next};
-ghost use Rattle.port_worker.specs.Told.{TellsOf, passes_over};
+ghost use Rattle.journal_write.specs.Told.{TellsOf, passes_over};
 ghost use Rattle.port_worker.specs.Journalled.{HasRoomIfAny, IsBlankIfAny, IsJournalled, IsSettledIfAny};
 ghost use Rattle.port_worker.specs.Replayed.{HasReplayed};
 
@@ -38,8 +38,7 @@ use crate::control_ends::ControlEnds;
 use crate::looking::{look_all, look_control};
 use crate::outputs::{begin_all, drain_all};
 use crate::port_ends::PortEnds;
-use crate::told::Told;
-use journal_write::Journal;
+use journal_write::{Journal, Told};
 use savi_core::{Batch, Core, Event, Reply};
 use savi_ends::{Clock, Sink, Source};
 use savi_kinds::{How, Plan, Port, Who};

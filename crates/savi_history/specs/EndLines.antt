@@ -1,15 +1,11 @@
 -- The lines on standard error for the ends of a history that an operator has to know of: each end but an ordinary one has
--- its line, in the order of the history.
-use Rattle.std.specs.Prelude.{ℕ, if◌then◌else◌, List, [], ◌∷◌, ◌++◌, length, codes, decimal}
-use Rattle.savi_kinds.specs.declared.entry.Act.{Act}
-use Rattle.savi_kinds.specs.declared.entry.Act.TheVariants as acts
+-- its line, in the order of the history, and a pause has none.
+use Rattle.std.specs.Prelude.{ℕ, List, [], ◌∷◌, ◌++◌, codes, decimal}
 use Rattle.savi_kinds.specs.declared.entry.Who.{Who}
 use Rattle.savi_kinds.specs.declared.entry.Who.TheVariants.{Ingress, Control, Ticker, Egress}
 use Rattle.savi_kinds.specs.declared.entry.How.{How}
 use Rattle.savi_kinds.specs.declared.entry.How.TheVariants as hows
 use Rattle.savi_kinds.specs.Ports.{number_of}
-use Rattle.hist_store.specs.Rows.{Row}
-use Rattle.savi_history.specs.Endings.{is_input, is_paused_reason}
 
 -- where it was: at a port, at control or at the ticker
 abbrev pub where_text : Who → List ℕ
@@ -38,24 +34,6 @@ end_line who (hows.Overlong at) = end_line_of who (codes "overlong line at " ++ 
 end_line who hows.Failed = end_line_of who (failed_text who)
 end_line who hows.Unwritten = end_line_of who (codes "write failed")
 end_line who hows.Paused = []
-
--- the line of a pause behind so many entries: of an input, for which there was no room
-abbrev pub paused_line : ℕ → Who → List ℕ
-paused_line count who = if is_input who then end_line_of who (codes "history full at " ++ decimal count) else []
-
--- the line of an entry behind so many, if it has one
-abbrev pub entry_line : ℕ → Act → List ℕ
-entry_line count (acts.Frame port stamp at len) = []
-entry_line count (acts.Long port stamp len) = []
-entry_line count (acts.Tick stamp) = []
-entry_line count (acts.Command stamp at len) = []
-entry_line count (acts.Drain port items) = []
-entry_line count (acts.End who how) = if is_paused_reason how then paused_line count who else end_line who how
-
--- the lines of a history, of which the newest row is the first
-abbrev pub end_lines : List Row → List ℕ
-end_lines [] = []
-end_lines (r ∷ past) = end_lines past ++ entry_line (length past) r.entry.act
 
 -- the lines of ends that are told, in order
 abbrev pub told_lines : List (Who × How) → List ℕ

@@ -1,6 +1,6 @@
--- No more goes in than comes in: by a replay than its inputs have, and by any history than it holds of control and its
--- ports.
-use Rattle.std.proofs.Common.{◌≡◌, ℕ, ◌+◌, ◌≤◌, ◌==◌, ◌||◌, nat_lt, Bool, true, false, if◌then◌else◌, List, [], ◌∷◌, ◌++◌, map, length, sum_by, Option, Some, None, refl, sym, ap, ◌∙◌, subst, arith}
+-- No more goes in than comes in: by a replay than its inputs have, and by any history or segments than they hold of control
+-- and the ports.
+use Rattle.std.proofs.Common.{◌≡◌, ℕ, ◌+◌, ◌≤◌, ◌==◌, ◌||◌, nat_lt, not, Bool, true, false, if◌then◌else◌, List, [], ◌∷◌, ◌++◌, map, length, sum_by, Option, Some, None, refl, sym, ap, ◌∙◌, subst, arith}
 use Rattle.std.specs.List.{list_any, flat_map}
 use Rattle.std.proofs.lemmas.Bool.{false≢true, eqb-true, eq-eqb}
 use Rattle.std.proofs.lemmas.List.Sums.{sum_by-cons, sum_by-append}
@@ -19,6 +19,7 @@ use Rattle.cli_lang.specs.Arrivals.{Line}
 use Rattle.cli_lang.specs.Arrivals as control
 use Rattle.hist_store.specs.Rows.{Row, held}
 use Rattle.checkpoint.specs.Bases.{Base, empty}
+use Rattle.savi_history.specs.Endings.{is_paused_reason}
 use Rattle.savi_history.specs.Passes.{pass_of, egress_pass, has_ended}
 use Rattle.savi_history.specs.Limits.{has_room}
 use Rattle.savi_history.specs.Queues.{queue}
@@ -31,7 +32,8 @@ use Rattle.savi_history.specs.Turns.{Turn, Arrives, Commands, Ends, who_of, turn
 use Rattle.savi_history.specs.Replay.{PortStops, Stops, is_stopped, pieces_by, event_of, with_event, with_failure, begun, with_drain, drained, with_reply, entered, closed, closing, with_end, egress_ended}
 use Rattle.savi_history.proofs.Replying.{behind_reply}
 use Rattle.savi_segments.specs.Replay.{Run, all_closed, all_taken, base_in, has_ended_in, inputs_paused, inputs_taken, ports_paused, replayed, room_made, run_begun, segments_of, stops_left, taken, taken_if_open, turned, with_pause}
-use Rattle.savi_segments.specs.Segments.{joined}
+use Rattle.savi_segments.specs.Segments.{AreLegal, base_after, joined}
+use Rattle.savi_segments.specs.Unbroken.{unbroken, without_pauses}
 use Rattle.savi_laws.specs.Budgets.{input_count, given_count, given_octets, kept_of, lines_of, arrivals_of, all_arrived}
 
 pub sum_ones : {X : Type 0} (xs : List X) → sum_by (λ x. 1) xs ≡ length xs
@@ -264,40 +266,67 @@ module _ (of_arrival : Arrival → ℕ) (of_line : Line → ℕ) where
         )
 
     module _ (base : Base) where
-      event_most : (past : List Row) (event : Event) → MayCome plan base past event → weight past ≤ all_held past → weight (row_of plan base past event ∷ past) ≤ all_held (row_of plan base past event ∷ past)
-      event_most past (Frame port stamp octets) may low =
+      -- an entry weighs what it adds, whatever stands behind it
+      event_most : (past rows told : List Row) (event : Event) → MayCome plan base past event → weight rows ≤ all_held told → weight (row_of plan base past event ∷ rows) ≤ all_held (row_of plan base past event ∷ told)
+      event_most past rows told (Frame port stamp octets) may low =
           omega (
             arith,
-            all_parts (row_of plan base past (Frame port stamp octets)) past,
-            weighs.frame base past past port stamp octets,
+            all_parts (row_of plan base past (Frame port stamp octets)) told,
+            weighs.frame base past rows port stamp octets,
             own_part plan.ports (number_of port) (arrivals.Frame stamp octets) may.0.open_pass.known,
             low,
           )
-      event_most past (Long port stamp len) may low =
+      event_most past rows told (Long port stamp len) may low =
           omega (
             arith,
-            all_parts (row_of plan base past (Long port stamp len)) past,
-            weighs.long base past past port stamp len,
+            all_parts (row_of plan base past (Long port stamp len)) told,
+            weighs.long base past rows port stamp len,
             own_part plan.ports (number_of port) (arrivals.Long stamp len) may.0.open_pass.known,
             low,
           )
-      event_most past (Command stamp line) may low =
+      event_most past rows told (Command stamp line) may low =
           omega (
             arith,
-            all_parts (row_of plan base past (Command stamp line)) past,
-            weighs.line base past past stamp line,
+            all_parts (row_of plan base past (Command stamp line)) told,
+            weighs.line base past rows stamp line,
             sum_by-cons of_line (record { stamp = stamp; command = line }) [],
             low,
           )
-      event_most past (Tick stamp) may low = omega (arith, all_parts (row_of plan base past (Tick stamp)) past, weighs.tick base past past stamp, low)
-      event_most past (Drain port count) may low = omega (arith, all_parts (row_of plan base past (Drain port count)) past, weighs.drain base past past port count, low)
-      event_most past (End who how) may low = omega (arith, all_parts (row_of plan base past (End who how)) past, weighs.ends base past past who how, low)
+      event_most past rows told (Tick stamp) may low = omega (arith, all_parts (row_of plan base past (Tick stamp)) told, weighs.tick base past rows stamp, low)
+      event_most past rows told (Drain port count) may low = omega (arith, all_parts (row_of plan base past (Drain port count)) told, weighs.drain base past rows port count, low)
+      event_most past rows told (End who how) may low = omega (arith, all_parts (row_of plan base past (End who how)) told, weighs.ends base past rows who how, low)
 
       legal_most : (past : List Row) → IsLegal plan base past → weight past ≤ all_held past
       legal_most [] legal = omega (arith, weighs.none)
       legal_most (r ∷ past) legal =
           let stands : Stands plan base past r = legal.0 in
-          subst (λ (x : Row). weight (x ∷ past) ≤ all_held (x ∷ past)) (sym stands.2) (event_most past stands.0 stands.1 (legal_most past legal.1))
+          subst (λ (x : Row). weight (x ∷ past) ≤ all_held (x ∷ past)) (sym stands.2) (event_most past past past stands.0 stands.1 (legal_most past legal.1))
+
+      -- behind other rows, without pauses
+
+      end_kept : (past rows told : List Row) (who : Who) (how : How) (b : Bool) → MayCome plan base past (End who how) → weight rows ≤ all_held told
+          → weight (row_of plan base past (End who how) ∷ rows) ≤ all_held (if b then row_of plan base past (End who how) ∷ told else told)
+      end_kept past rows told who how true may low = event_most past rows told (End who how) may low
+      end_kept past rows told who how false may low = omega (arith, weighs.ends base past rows who how, low)
+
+      event_behind : (past rows : List Row) (event : Event) → MayCome plan base past event → weight rows ≤ all_held (without_pauses rows) → weight (row_of plan base past event ∷ rows) ≤ all_held (without_pauses (row_of plan base past event ∷ rows))
+      event_behind past rows (Frame port stamp octets) may low = event_most past rows (without_pauses rows) (Frame port stamp octets) may low
+      event_behind past rows (Long port stamp len) may low = event_most past rows (without_pauses rows) (Long port stamp len) may low
+      event_behind past rows (Command stamp line) may low = event_most past rows (without_pauses rows) (Command stamp line) may low
+      event_behind past rows (Tick stamp) may low = event_most past rows (without_pauses rows) (Tick stamp) may low
+      event_behind past rows (Drain port count) may low = event_most past rows (without_pauses rows) (Drain port count) may low
+      event_behind past rows (End who how) may low = end_kept past rows (without_pauses rows) who how (not (is_paused_reason how)) may low
+
+      segment_most : (past before : List Row) → IsLegal plan base past → weight before ≤ all_held (without_pauses before) → weight (past ++ before) ≤ all_held (without_pauses (past ++ before))
+      segment_most [] before legal low = low
+      segment_most (r ∷ past) before legal low =
+          let stands : Stands plan base past r = legal.0 in
+          subst (λ (x : Row). weight (x ∷ (past ++ before)) ≤ all_held (without_pauses (x ∷ (past ++ before)))) (sym stands.2)
+          (event_behind past (past ++ before) stands.0 stands.1 (segment_most past before legal.1 low))
+
+    segments_most : (segments : List (List Row)) → AreLegal plan segments → weight (joined segments) ≤ all_held (unbroken segments)
+    segments_most [] legal = omega (arith, weighs.none)
+    segments_most (segment ∷ before) legal = segment_most (base_after plan before) segment (joined before) legal.0 (segments_most before legal.2)
 
 -- each input counts once
 pub counts : (plan : Plan) → Weighs (λ a. 1) (λ line. 1) plan input_count
@@ -338,4 +367,13 @@ pub legal_given : (plan : Plan) (base : Base) (past : List Row) → IsLegal plan
 legal_given plan base past legal = (
   as_counts (entered_lines past) (all_arrived plan past) (input_count past) (legal_most (λ a. 1) (λ line. 1) plan input_count (counts plan) base past legal),
   legal_most kept_of (λ line. length line.command) plan held (keeps plan) base past legal,
+)
+
+-- so it is of legal segments
+pub segments_given : (plan : Plan) (segments : List (List Row)) → AreLegal plan segments
+    → (input_count (joined segments) ≤ given_count (entered_lines (unbroken segments)) (all_arrived plan (unbroken segments)))
+    × (held (joined segments) ≤ given_octets (entered_lines (unbroken segments)) (all_arrived plan (unbroken segments)))
+segments_given plan segments legal = (
+  as_counts (entered_lines (unbroken segments)) (all_arrived plan (unbroken segments)) (input_count (joined segments)) (segments_most (λ a. 1) (λ line. 1) plan input_count (counts plan) segments legal),
+  segments_most kept_of (λ line. length line.command) plan held (keeps plan) segments legal,
 )

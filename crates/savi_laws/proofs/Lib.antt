@@ -16,3 +16,4 @@ pub mod Budget
 pub mod Enough
 pub mod Example
 pub mod Worked
+pub mod OneSegment

@@ -26,7 +26,8 @@ ghost use Rattle.savi_history.specs.Endings.{has_paused_end};
 ghost use Rattle.savi_history.specs.Readable.{IsInput, IsControl};
 ghost use Rattle.savi_history.specs.Replay.{Stops, with_event};
 ghost use Rattle.savi_segments.specs.Replay.{replayed};
-ghost use Rattle.savi_segments.specs.Segments.{joined};
+ghost use Rattle.savi_segments.specs.Segments.{AreLegal, IsWholeSession, joined};
+ghost use Rattle.savi_segments.specs.Unbroken.{unbroken};
 ghost use Rattle.savi_history.specs.Events.{Event, Command, judged_of, the_vlan};
 ghost use Rattle.savi_history.specs.Legal.{IsLegal, IsOpen};
 ghost use Rattle.savi_history.specs.Limits.{IsWithinLimits, has_room};
@@ -179,6 +180,19 @@ pub fn a_budget_always_suffices()
     ensures given { (plan : Plan) (base : Base) (past : List Row) → IsLegal plan base past
         → (input_count past ≤ given_count (entered_lines past) (all_arrived plan past))
         × (held past ≤ given_octets (entered_lines past) (all_arrived plan past)) }
+{}
+
+/// The same of the segments of a session: all that came in are the lines that they hold, and what they hold of the plan's
+/// ports (`given`). Each is a legal history of its own, for which the budget suffices by what it goes on from
+/// (`a_budget_always_suffices`); and with room for all that came in a whole session is of one, and no pass is paused in it
+/// (`one`).
+pub fn a_budget_suffices_for_one_segment()
+    ensures given { (plan : Plan) (segments : List (List Row)) → AreLegal plan segments
+        → (input_count (joined segments) ≤ given_count (entered_lines (unbroken segments)) (all_arrived plan (unbroken segments)))
+        × (held (joined segments) ≤ given_octets (entered_lines (unbroken segments)) (all_arrived plan (unbroken segments))) }
+    ensures one { (plan : Plan) (segments : List (List Row)) → IsValidPlan plan → IsWholeSession plan segments
+        → Suffices plan (input_count (joined segments)) (held (joined segments))
+        → (length segments ≡ 1) × (has_paused_end (joined segments) ≡ false) }
 {}
 
 /// A legal history in which a pass is paused for want of room has an entry with a stamp, or an end that is no pause: so each

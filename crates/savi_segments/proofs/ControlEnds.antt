@@ -1,5 +1,5 @@
 -- How control has ended for good, as a replay goes on: by its own ends alone, across turns too.
-use Rattle.std.proofs.Common.{◌≡◌, ◌≢◌, ℕ, ◌==◌, not, Bool, true, false, List, [], ◌∷◌, ◌++◌, length, refl, ap, sym, ◌∙◌, subst, arith, if◌then◌else◌, append-nil, Option, Some}
+use Rattle.std.proofs.Common.{◌≡◌, ◌≢◌, ℕ, ◌==◌, Bool, true, false, List, [], ◌∷◌, length, refl, ap, sym, ◌∙◌, subst, arith, if◌then◌else◌, append-nil, Option, Some}
 use Rattle.std.proofs.lemmas.Bool.{eq-eqb, ne_eqb}
 use Rattle.savi_kinds.specs.declared.port.Port.{Port}
 use Rattle.savi_kinds.specs.declared.plan.Plan.{Plan}
@@ -16,10 +16,8 @@ use Rattle.checkpoint.specs.Bases.{Base}
 use Rattle.savi_history.specs.ControlInputs.{control_end, entered_lines}
 use Rattle.savi_history.specs.ControlOutputs.{replies}
 use Rattle.savi_history.specs.Endings.{is_paused_reason}
-use Rattle.savi_history.specs.Events.{Event, Drain, End, row_of}
-use Rattle.savi_history.specs.Events as events
-use Rattle.savi_history.specs.Legal.{IsLegal, MayCome}
-use Rattle.savi_history.specs.Passes.{control_pass, egress_pass, has_ended, has_pass, has_port, pass_count, pass_of}
+use Rattle.savi_history.specs.Events.{Drain, End}
+use Rattle.savi_history.specs.Passes.{control_pass, egress_pass, has_ended, has_port, pass_count, pass_of}
 use Rattle.savi_history.specs.Queues.{queue}
 use Rattle.savi_history.specs.Replay.{PortStops, Stops, begun, closed, closing, drained, egress_ended, entered, event_of, is_stopped, pieces_by, with_drain, with_end, with_event, with_failure}
 use Rattle.savi_history.specs.Turns.{Turn, Arrives, Commands, Ends}
@@ -29,8 +27,9 @@ use Rattle.savi_history.proofs.PortPlaces.{place_within}
 use Rattle.savi_history.proofs.Replaying.{IsAt, IsOurs, anything}
 use Rattle.savi_segments.specs.Checkpoints.{end_of, up_to}
 use Rattle.savi_segments.specs.Replay.{Run, all_closed, base_in, inputs_paused, ports_paused, turned, with_pause}
-use Rattle.savi_segments.specs.Segments.{AreLegal, base_after, joined}
-use Rattle.savi_segments.specs.Unbroken.{unbroken, without_pauses}
+use Rattle.savi_segments.specs.Segments.{AreLegal}
+use Rattle.savi_segments.specs.Unbroken.{unbroken}
+use Rattle.savi_segments.proofs.HowEnded.{control_says, newest_says}
 use Rattle.savi_segments.proofs.Passing.{below_in, in_ends}
 use Rattle.savi_segments.proofs.Turning.{still_inputs}
 
@@ -146,44 +145,9 @@ how_turned plan run =
     in_ends (λ (n : ℕ). end_of base n segment) (control_pass plan) (up_to (pass_count plan)) (below_in (pass_count plan) (control_pass plan) (omega arith))
     ∙ other_closed plan base paused ∙ still_inputs plan base run.past (control_pass plan)
 
--- In legal segments control has ended for good as their rows say.
-
-module _ (plan : Plan) where
-  said_end : (base : Base) (past rows : List Row) (who : Who) (how : How) (b : Bool) → is_paused_reason how ≡ b → has_pass plan who ≡ true → end_of base (control_pass plan) past ≡ control_end rows
-      → end_of base (control_pass plan) (with_event plan base past (End who how)) ≡ control_end (if not b then row_of plan base past (End who how) ∷ rows else rows)
-  said_end base past rows who how true paused known same = rw paused same
-  said_end base past rows (passes.Ingress p) how false good known same =
-      let within = place_within plan (number_of p) known in
-      other_end plan base past (passes.Ingress p) how (λ e. absurd (omega (arith, within, e))) ∙ same
-  said_end base past rows passes.Control how false good known same = rw (good, itself (control_pass plan)) refl
-  said_end base past rows passes.Ticker how false good known same = other_end plan base past passes.Ticker how (λ e. absurd (omega (arith, e))) ∙ same
-  said_end base past rows (passes.Egress p) how false good known same = other_egress plan base past p how ∙ same
-
-  said_event : (base : Base) (past before : List Row) (event : Event) → MayCome plan base past event → end_of base (control_pass plan) past ≡ control_end (without_pauses (past ++ before))
-      → end_of base (control_pass plan) (row_of plan base past event ∷ past) ≡ control_end (without_pauses (row_of plan base past event ∷ (past ++ before)))
-  said_event base past before (events.Frame port stamp octets) may same = same
-  said_event base past before (events.Long port stamp len) may same = same
-  said_event base past before (events.Command stamp line) may same = same
-  said_event base past before (events.Tick stamp) may same = same
-  said_event base past before (events.Drain port count) may same = same
-  said_event base past before (events.End who how) may same = said_end base past (without_pauses (past ++ before)) who how (is_paused_reason how) refl may.0.known same
-
-  pub said_rows : (base : Base) (past before : List Row) → IsLegal plan base past → end_of base (control_pass plan) [] ≡ control_end (without_pauses before)
-      → end_of base (control_pass plan) past ≡ control_end (without_pauses (past ++ before))
-  said_rows base [] before legal same = same
-  said_rows base (r ∷ past) before legal same =
-      subst (λ (x : Row). end_of base (control_pass plan) (x ∷ past) ≡ control_end (without_pauses (x ∷ (past ++ before)))) (sym legal.0.2)
-      (said_event base past before legal.0.0 legal.0.1 (said_rows base past before legal.1 same))
-
-  pub said_first : (segments : List (List Row)) → AreLegal plan segments → end_of (base_after plan segments) (control_pass plan) [] ≡ control_end (unbroken segments)
-  said_first [] legal = refl
-  said_first (segment ∷ before) legal =
-      let base = base_after plan before in
-      in_ends (λ (n : ℕ). end_of base n segment) (control_pass plan) (up_to (pass_count plan)) (below_in (pass_count plan) (control_pass plan) (omega arith))
-      ∙ said_rows base segment (joined before) legal.0 (said_first before legal.2)
-
-  -- so it is where a run closes
-  pub said_last : (run : Run) → AreLegal plan (all_closed plan run) → control_end (unbroken (all_closed plan run)) ≡ how_in plan run
-  said_last run legal =
-      let base = base_in plan run in
-      sym (said_rows base (closed plan base run.past) (joined run.closed) legal.0 (said_first run.closed legal.2)) ∙ other_closed plan base run.past
+-- Where a run closes control has ended for good as its rows say.
+pub said_last : (plan : Plan) (run : Run) → AreLegal plan (all_closed plan run) → control_end (unbroken (all_closed plan run)) ≡ how_in plan run
+said_last plan run legal =
+    let base = base_in plan run in
+    sym (newest_says plan (control_pass plan) control_end (control_says plan) (omega arith) (closed plan base run.past) run.closed legal)
+    ∙ other_closed plan base run.past

@@ -92,7 +92,7 @@ paused_no_line octets (acts.Command stamp at len) is = absurd (false≢true is)
 paused_no_line octets (acts.Drain port count) is = refl
 paused_no_line octets (acts.End who how) is = refl
 
-lines_unpaused : (rows : List Row) → entered_lines (without_pauses rows) ≡ entered_lines rows
+pub lines_unpaused : (rows : List Row) → entered_lines (without_pauses rows) ≡ entered_lines rows
 lines_unpaused [] = refl
 lines_unpaused (r ∷ rows) = elim (cases_Bool (is_paused_end r.entry.act)) [
   | inl is ↦ rw is (lines_unpaused rows ∙ sym (append-nil (entered_lines rows)) ∙ ap (λ (l : List Line). entered_lines rows ++ l) (sym (paused_no_line r.octets r.entry.act is)))

@@ -23,6 +23,8 @@ pub mod Runs
 pub mod Failures
 pub mod ControlEnds
 pub mod EnteringLines
+pub mod Adjoined
+pub mod HowEnded
 pub mod FittingReplies
 pub mod OutputSteps
 pub mod OutputBegins

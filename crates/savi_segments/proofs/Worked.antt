@@ -26,7 +26,7 @@ use Rattle.savi_history.specs.Judged.{verdict_of}
 use Rattle.savi_history.specs.CameFirst.{IsLiveAtEnd}
 use Rattle.savi_history.specs.Events.{Frame, row_of}
 use Rattle.savi_history.proofs.Example.{port_one, port_two, packet}
-use Rattle.savi_segments.specs.Segments.{base_after, joined, AreLegal}
+use Rattle.savi_segments.specs.Segments.{AreOctets, base_after, joined, AreLegal}
 use Rattle.savi_segments.specs.Steps.{Step, Enters, Turns, gone, newest_rows, newest_base}
 
 -- port 1 and port 2 are hosts'; sources are validated
@@ -119,6 +119,13 @@ all_octets (x ∷ xs) low (suc i) = all_octets xs (and_parts (nat_lt x 256) (lis
 
 packet_octets : IsBytes packet
 packet_octets = all_octets packet refl
+
+-- rows whose octets are below 256 are rows of octets
+pub rows_of_octets : (past : List Row) → list_all (λ r. list_all (λ x. nat_lt x 256) r.octets) past ≡ true → AreOctets past
+rows_of_octets [] low = All-nil (λ (r : Row). IsBytes r.octets)
+rows_of_octets (r ∷ past) low =
+    let parts = and_parts (list_all (λ x. nat_lt x 256) r.octets) (list_all (λ (other : Row). list_all (λ x. nat_lt x 256) other.octets) past) low in
+    All-cons (λ (other : Row). IsBytes other.octets) r past (all_octets r.octets parts.0) (rows_of_octets past parts.1)
 
 -- the segments are legal
 pub first_is_legal : AreLegal plan first

@@ -1,9 +1,9 @@
 //! Histories in segments: a history that is split at turns, each segment going on from what those before it left, reads as
 //! the joined one.
 //!
-//! A replay goes on in segments (`specs/Replay.antt`), and a journal has them one behind the other (`specs/Journals.antt`).
-//! The definitions of `specs/` speak of whole histories of `savi_history`. Each function does nothing: its contract is the
-//! law. A live session doesn't go on in segments yet.
+//! A replay (`specs/Replay.antt`) and a live session go on in segments, and a journal has them one behind the other
+//! (`specs/Journals.antt`). The definitions of `specs/` speak of whole histories of `savi_history`. Each function does
+//! nothing: its contract is the law.
 //!
 //! Read: RFC 6620 and RFC 7513 (what is told of addresses), IEEE 802.1Q clause 8 (stations).
 #![tactic(auto)]

@@ -6,9 +6,9 @@ use Rattle.savi_core.specs.Machines.{base_of}
 use Rattle.savi_history.specs.Endings.{ends_told}
 use Rattle.savi_segments.specs.Segments.{AreOctets}
 use Rattle.port_worker.specs.Journalled.{HasRoomIfAny, IsJournalled}
-use Rattle.port_worker.proofs.FewEnds.{few_more}
+use Rattle.journal_write.proofs.FewEnds.{few_more}
 use Rattle.port_worker.proofs.Journalling.{journal_more, journal_none, none_if}
-use Rattle.port_worker.proofs.Telling.{tells_more}
+use Rattle.journal_write.proofs.Telling.{tells_more}
 use Rattle.port_worker.proofs.turns.close_segment.Goals as goal
 
 pub add-requires : goal.add-requires

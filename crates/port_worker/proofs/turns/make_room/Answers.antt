@@ -10,7 +10,7 @@ use Rattle.savi_core.specs.Machines.{Machine, base_of}
 use Rattle.port_worker.specs.Journalled.{IsJournalled}
 use Rattle.port_worker.specs.Replays.{ports_planned}
 use Rattle.port_worker.specs.Steps.{HasRoomFor, comes_in}
-use Rattle.port_worker.specs.Told.{TellsOf, passes_over}
+use Rattle.journal_write.specs.Told.{TellsOf, passes_over}
 use Rattle.port_worker.specs.Turnings.{AreTurned, StandsAt, turn_next}
 use Rattle.port_worker.proofs.Making.{HasRoomAlready, base_closes, base_told, closes_finished, closes_shows, if_all, paused_inputs, paused_quiet, paused_ticker, plan_closes, room_already, room_new, stays, turned_holds, turned_stands, turned_turned, turns}
 use Rattle.port_worker.proofs.turns.make_room.Goals.{then-has_room-via-then-has_room, then-has_room-via-else-has_room+then-not-needs_room}

@@ -14,7 +14,7 @@ use Rattle.port_worker.specs.Inputs.{turn_moment}
 use Rattle.port_worker.specs.Journalled.{IsJournalled}
 use Rattle.port_worker.specs.LineInputs.{control_moment}
 use Rattle.port_worker.specs.Steps.{HasRoomFor}
-use Rattle.port_worker.specs.Told.{TellsOf, passes_over}
+use Rattle.journal_write.specs.Told.{TellsOf, passes_over}
 use Rattle.port_worker.specs.Turnings.{AreTurned, StandsAt, turn_next}
 use Rattle.port_worker.proofs.Beginning.{begun_at}
 use Rattle.port_worker.proofs.Fitting.{fits_started}

@@ -31,9 +31,8 @@ returns-clause-closed g c = λ first before goes_on was.
     let rows_are : rows ≡ reverse core.past = sym (reverse-reverse rows) ∙ ap reverse c.history.ensures.rows in
     let end_is : end ≡ journal_end_text (length rows) =
     c.as_slice-2.ensures.value ∙ c.put_end.ensures ∙ ap journal_end_text (c.len.ensures.len ∙ sym (length-reverse core.past) ∙ ap length (sym rows_are)) in
-    subst (λ (t : List ℕ). HasText g.K.Sink.written g.K.Sink.faults first c.settle.new.self t)
+    subst (λ (t : List ℕ). HasText g.K.Sink.written g.K.Sink.faults first c.put_at_once.new.self t)
     (one_more plan (base_of core) before core.past rows begin end goes_on rows_are (c.as_slice.ensures.value ∙ c.put_begin.ensures) end_is)
-    (c.settle.ensures.text first (((journal_of plan before ++ bases) ++ begin) ++ entries ++ end)
-    (c.put-2.ensures.text first (((journal_of plan before ++ bases) ++ begin) ++ entries)
+    (c.put_at_once.ensures.text first (((journal_of plan before ++ bases) ++ begin) ++ entries)
     (c.put_entries.ensures.text first ((journal_of plan before ++ bases) ++ begin)
-    (c.put.ensures.text first (journal_of plan before ++ bases) (c.put_base_lines.ensures.text first (journal_of plan before) was)))))
+    (c.put.ensures.text first (journal_of plan before ++ bases) (c.put_base_lines.ensures.text first (journal_of plan before) was))))

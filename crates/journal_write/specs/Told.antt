@@ -1,4 +1,4 @@
--- What a replay keeps of the segments that are closed.
+-- What is told of the segments that are closed.
 use Rattle.std.specs.Prelude.{◌≡◌, ℕ, List, filter, length}
 use Rattle.std.specs.Option.{is_some}
 use Rattle.savi_kinds.specs.declared.plan.Plan.{Plan}

@@ -4,9 +4,9 @@ use Rattle.savi_kinds.specs.declared.entry.Who.{Who}
 use Rattle.savi_kinds.specs.declared.entry.How.{How}
 use Rattle.hist_store.specs.Rows.{Row}
 use Rattle.savi_history.specs.Endings.{end_told, ends_told}
-use Rattle.port_worker.specs.declared.told.Told.{Told}
-use Rattle.port_worker.proofs.Telling.{few_next, octets_reversed, told_next}
-use Rattle.port_worker.proofs.told.Told.add.Goals as goal
+use Rattle.journal_write.specs.declared.told.Told.{Told}
+use Rattle.journal_write.proofs.Telling.{few_next, octets_reversed, told_next}
+use Rattle.journal_write.proofs.told.Told.add.Goals as goal
 
 pub loop-n-init : goal.loop-n-init
 loop-n-init c = record { entries = refl; ends = sym (append-nil c.args.self.now.ends.items) }

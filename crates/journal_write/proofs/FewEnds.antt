@@ -19,8 +19,8 @@ use Rattle.savi_history.proofs.PortPlaces.{place_within}
 use Rattle.savi_segments.specs.Checkpoints.{end_of, up_to}
 use Rattle.savi_segments.specs.Segments.{AreLegal, base_after, joined}
 use Rattle.savi_segments.proofs.Passing.{below_in, in_ends}
-use Rattle.port_worker.specs.Told.{passes_over}
-use Rattle.port_worker.proofs.Unbroken.{shows}
+use Rattle.journal_write.specs.Told.{passes_over}
+use Rattle.savi_segments.proofs.HowEnded.{shows}
 
 abbrev one_if : Bool → ℕ
 one_if true = 1

@@ -1,4 +1,4 @@
-//! What is kept of the segments of a replay that are closed.
+//! What is told of the segments that are closed, beside the journal.
 
 use arrayvec::ArrayVec;
 use hist_store::Hist;

@@ -1,6 +1,6 @@
 use Rattle.std.proofs.Common.{◌≡◌, ◌++◌}
-use Rattle.port_worker.proofs.Telling.{ends_first}
-use Rattle.port_worker.proofs.told.Told.add.Given as goal
+use Rattle.journal_write.proofs.Telling.{ends_first}
+use Rattle.journal_write.proofs.told.Told.add.Given as goal
 
 abbrev pub invariant-loop-n : goal.invariant-loop-n
 invariant-loop-n l = record {

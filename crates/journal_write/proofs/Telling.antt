@@ -11,8 +11,8 @@ use Rattle.hist_store.specs.Rows.{Row}
 use Rattle.savi_history.specs.Endings.{end_told, ends_told}
 use Rattle.savi_history.specs.Summary.{capped}
 use Rattle.savi_segments.specs.Segments.{AreOctets, joined}
-use Rattle.port_worker.specs.Told.{TellsOf}
-use Rattle.port_worker.proofs.FewEnds.{told_both}
+use Rattle.journal_write.specs.Told.{TellsOf}
+use Rattle.journal_write.proofs.FewEnds.{told_both}
 
 -- the row of an entry that was read
 row_of_entry : (o : Option Row) (e : Entry) → IsSomeAnd o (λ row. row.entry ≡ e) → (row : Row) × (o ≡ Some row) × (row.entry ≡ e)
