@@ -1,4 +1,6 @@
-pub mod Hearing
-pub mod LineViews
+pub mod Told
+pub mod LineOutcomes
 pub mod Serving
-pub mod Closing
+pub mod Passing
+pub mod Stepping
+pub mod Working

@@ -1,4 +1,4 @@
 pub mod Replying
+pub mod States
 pub mod LineTurns
-pub mod Heard
-pub mod Progress
+pub mod Sides

@@ -30,13 +30,13 @@ use Rattle.savi_history.specs.ControlInputs.{is_quit}
 use Rattle.savi_history.specs.ControlOutputs.{replies}
 use Rattle.savi_history.specs.Events.{Event, Frame, Command, End}
 use Rattle.savi_history.specs.Legal.{IsLegal, IsFinished}
-use Rattle.savi_history.specs.Limits.{IsWithinLimits}
 use Rattle.savi_history.specs.Offers.{offers}
 use Rattle.savi_history.specs.Passes.{AllEnded}
 use Rattle.savi_history.specs.Queues.{probes, lost}
 use Rattle.savi_history.proofs.Example.{port_one, packet}
-use Rattle.savi_history.proofs.Starting.{empty_within}
-use Rattle.live_session.specs.LiveControl.{AreLiveLines}
+use Rattle.savi_segments.specs.Segments.{AreOctets}
+use Rattle.savi_segments.proofs.Worked.{rows_of_octets}
+use Rattle.control_reader.specs.LiveLines.{AreLiveLines}
 use Rattle.live_session.specs.LiveRows.{ControlRow}
 use Rattle.live_session.specs.LiveSession.{PortRow, IsLive}
 use Rattle.savi_laws.specs.Rebuilt.{rows_by}
@@ -190,13 +190,16 @@ past_is_legal = (
   ),
 )
 
+past_is_octets : AreOctets past
+past_is_octets = rows_of_octets past refl
+
 -- the port's frame came in, and nothing goes out there
-port_row : PortRow told told none_failed none_failed told plan empty past (record { number = port_one; role = roles.Host; format = formats.Stream; input = []; output = [] }) old_port new_port
+port_row : PortRow told told none_failed none_failed told plan (past ∷ []) (record { number = port_one; role = roles.Host; format = formats.Stream; input = []; output = [] }) old_port new_port
 unfolding class_of nd_of named message_passes kind_of guard_of judged offers probes lost
 port_row = (
   (
-    [],
     hows.End,
+    refl,
     record {
       gave = (stream, refl);
       fits = stream_is;
@@ -206,7 +209,6 @@ port_row = (
       broken = λ same. let never : hows.End ≡ hows.Failed = same in absurd cc;
       still = λ other. refl;
     },
-    refl,
   ),
   record {
     fits = refl;
@@ -216,37 +218,40 @@ port_row = (
   },
 )
 
-control_row : ControlRow told told none_failed none_failed told plan empty past old_control new_control
+control_row : ControlRow told told none_failed none_failed told plan (past ∷ []) old_control new_control
 unfolding command_of
 control_row = record {
-  gave = (quit_line, refl);
-  fits = (
-    record { behind = []; ending = hows.End; read = line_is },
-    record { front = []; last = record { stamp = 1001; command = quit }; all = refl; none = All-nil (λ (line : control.Line). is_quit line ≡ false); quit = refl },
-  );
-  near = λ how at same fault. omega arith;
-  stamped = ([], refl, refl);
+  ending = hows.Quit;
+  ended = refl;
+  source = record {
+    gave = (quit_line, refl);
+    fits = (
+      record { behind = []; ending = hows.End; read = line_is },
+      record { front = []; last = record { stamp = 1001; command = quit }; all = refl; none = All-nil (λ (line : control.Line). is_quit line ≡ false); quit = refl },
+    );
+    near = λ at fault. absurd fault;
+    stamped = ([], refl, refl);
+    later = lit≤ tt;
+    broken = λ same. let never : hows.Quit ≡ hows.Failed = same in absurd cc;
+    still = λ other answered. refl;
+  };
   fits_out = refl;
-  source = lit≤ tt;
   sink = lit≤ tt;
-  broken = λ same. let never : Some hows.Quit ≡ Some hows.Failed = same in absurd cc;
-  still = λ other. refl;
-  unwritten = λ same. let never : Some hows.Quit ≡ Some hows.Unwritten = same in absurd cc;
+  unwritten = λ same. let never : hows.Quit ≡ hows.Unwritten = same in absurd cc;
   still_out = λ other. refl;
 }
 
 -- the session was so
-pub session_is_live : IsLive told told none_failed none_failed told plan empty past (old_port ∷ []) (new_port ∷ []) (Some old_control) (Some new_control) [] []
+pub session_is_live : IsLive told told none_failed none_failed told plan (past ∷ []) (old_port ∷ []) (new_port ∷ []) (Some old_control) (Some new_control) [] []
 session_is_live = record {
-  legal = past_is_legal;
-  finished = past_is_finished;
+  session = record { legal = (past_is_legal, past_is_octets, tt); turned = (tt, tt); closed = (past_is_finished, refl) };
   size = refl;
   ports = at_one;
   control = control_row;
-  ticker = record { latest = []; reads = ([], refl, refl); ticked = (refl, (refl, (refl, (refl, (refl, (refl, tt)))))) };
+  ticker = record { latest = []; reads = ([], refl, refl); ticked = (refl, (refl, (refl, (refl, (refl, (refl, tt)))))); ended = refl };
 }
   where
-    at_one : (place : ℕ) (p : PortPlan) (d : Ends (List ℕ) (List ℕ) (List ℕ)) → place < 1 → PortRow told told none_failed none_failed told plan empty past (slice_index_or plan.ports place p) (slice_index_or (old_port ∷ []) place d) (slice_index_or (new_port ∷ []) place d)
+    at_one : (place : ℕ) (p : PortPlan) (d : Ends (List ℕ) (List ℕ) (List ℕ)) → place < 1 → PortRow told told none_failed none_failed told plan (past ∷ []) (slice_index_or plan.ports place p) (slice_index_or (old_port ∷ []) place d) (slice_index_or (new_port ∷ []) place d)
     at_one zero p d within = port_row
     at_one (suc place) p d within = absurd (omega (arith, within))
 
@@ -259,8 +264,5 @@ sources_have_inputs = record { each_port = refl; each_input = refl; have = at_on
     at_one (suc place) p d i within = absurd (omega (arith, within))
 
 -- for which the plan has room
-pub room_for_inputs : SufficesFor plan empty (Some commands) inputs
+pub room_for_inputs : SufficesFor plan (Some commands) inputs
 room_for_inputs = record { entries = lit≤ tt; bytes = lit≤ tt }
-
-pub base_is_within : IsWithinLimits plan empty
-base_is_within = empty_within plan plan_is_valid

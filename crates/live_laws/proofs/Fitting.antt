@@ -12,7 +12,7 @@ use Rattle.cli_lang.specs.Arrivals.{Line}
 use Rattle.cli_lang.specs.Arrivals as control
 use Rattle.savi_history.specs.ControlFits.{FitsControl, Begins, AreFirst, AreBeforeRefusal}
 use Rattle.savi_history.specs.Fits.{IsWhole}
-use Rattle.live_session.specs.LiveControl.{AreLiveLines}
+use Rattle.control_reader.specs.LiveLines.{AreLiveLines}
 use Rattle.live_laws.proofs.Fronts.{arrivals_most, lines_most, lines_same}
 
 -- what a source gave up is a front of what it told

@@ -14,7 +14,7 @@ use Rattle.port_reader.specs.Inputs.{AreArrivals}
 use Rattle.cli_lang.specs.Arrivals.{Line}
 use Rattle.cli_lang.specs.Arrivals as control
 use Rattle.cli_lang.proofs.Uniqueness as line_runs
-use Rattle.live_session.specs.LiveControl.{AreLiveLines}
+use Rattle.control_reader.specs.LiveLines.{AreLiveLines}
 
 -- a front of a list weighs no more
 front_most : {A : Type 0} (weight : A → ℕ) (all some later : List A) → all ≡ some ++ later → sum_by weight some ≤ sum_by weight all

@@ -1,5 +1,5 @@
--- What a live session's history holds is no more than what its sources have, and so the budget by these suffices.
-use Rattle.std.proofs.Common.{◌≡◌, ℕ, zero, suc, ◌+◌, ◌*◌, ◌<◌, ◌≤◌, false, List, [], ◌∷◌, ◌++◌, length, slice_index_or, sum_by, Option, Some, None, refl, ap, arith}
+-- What a live session's segments hold is no more than what its sources have, and so the budget by these suffices.
+use Rattle.std.proofs.Common.{◌≡◌, ℕ, zero, suc, ◌+◌, ◌*◌, ◌<◌, ◌≤◌, false, List, [], ◌∷◌, ◌++◌, length, slice_index_or, sum_by, Option, Some, None, refl, sym, ap, subst, arith}
 use Rattle.std.specs.List.{flat_map}
 use Rattle.std.proofs.lemmas.List.Sums.{sum_by-append}
 use Rattle.savi_kinds.specs.declared.plan.Plan.{Plan}
@@ -13,19 +13,20 @@ use Rattle.stream_io.specs.Streams as streams
 use Rattle.cli_lang.specs.Arrivals.{Line}
 use Rattle.cli_lang.specs.Arrivals as control
 use Rattle.hist_store.specs.Rows.{Row, held}
-use Rattle.checkpoint.specs.Bases.{Base}
-use Rattle.savi_history.specs.ControlInputs.{entered_lines, control_end}
+use Rattle.savi_history.specs.ControlInputs.{entered_lines}
 use Rattle.savi_history.specs.Endings.{has_paused_end}
 use Rattle.savi_history.specs.Limits.{IsWithinLimits}
 use Rattle.savi_history.specs.PortInputs.{arrived}
 use Rattle.savi_history.specs.Vlans.{the_vlan}
 use Rattle.live_session.specs.LiveSession.{ControlOf, IsLive}
 use Rattle.savi_laws.specs.Budgets.{input_count, given_count, given_octets, kept_of, lines_of, arrivals_of, all_arrived, entries_most}
-use Rattle.savi_laws.proofs.Enough.{few_entries, none_full, fewer_causes}
-use Rattle.savi_laws.proofs.Given.{legal_given, sum_ones}
-use Rattle.savi_laws.proofs.ReplayBudget.{fewer_octets}
+use Rattle.savi_segments.specs.Segments.{AreLegal, base_after, joined}
+use Rattle.savi_segments.specs.Unbroken.{unbroken}
+use Rattle.savi_laws.proofs.Enough.{few_entries}
+use Rattle.savi_laws.proofs.Given.{segments_given, sum_ones}
+use Rattle.savi_laws.proofs.OneSegment.{count_both, fewer, one_segment}
 use Rattle.live_laws.specs.SourceInputs.{HasLines, HaveInputs, causes_in, SufficesFor}
-use Rattle.live_laws.proofs.Fitting.{less, read_most, control_most}
+use Rattle.live_laws.proofs.Fitting.{read_most, control_most}
 
 -- what is kept of an arrival isn't its stamp
 kept_blind : (reading : ℕ) (a : Arrival) → kept_of (streams.stamped_at reading a) ≡ kept_of a
@@ -50,46 +51,60 @@ ports_most weight past (p ∷ ports) (i ∷ inputs) size each =
 few_of_fewer : (n i j b : ℕ) → i ≤ j → n ≤ 34 + 256 * (i + b) → n ≤ 34 + 256 * (j + b)
 few_of_fewer n i j b fewer low = omega (arith, fewer, low)
 
+few_octets : (h k x : ℕ) → h ≤ k → 1518 + k ≤ x → 1518 + h ≤ x
+few_octets h k x less low = omega (arith, less, low)
+
+-- of segments each one is legal from what those before it leave, and holds no more than all
+one_of : (plan : Plan) (later before : List (List Row)) (segment : List Row) → AreLegal plan (later ++ segment ∷ before)
+    → AreLegal plan (segment ∷ before) × (input_count segment ≤ input_count (joined (later ++ segment ∷ before)))
+one_of plan [] before segment legal = let count = count_both segment (joined before) in (legal, omega (arith, count))
+one_of plan (newest ∷ later) before segment legal =
+    let rest = one_of plan later before segment legal.2 in
+    let count = count_both newest (joined (later ++ segment ∷ before)) in
+    let less = rest.1 in
+    (rest.0, omega (arith, count, less))
+
 module _ {S K C : Type 0} (left : S → Option (List ℕ)) (written : K → Option (List ℕ)) (source_faults : S → ℕ)
-    (sink_faults : K → ℕ) (readings : C → Option (List ℕ)) (plan : Plan) (base : Base) (past : List Row)
+    (sink_faults : K → ℕ) (readings : C → Option (List ℕ)) (plan : Plan) (segments : List (List Row))
     (old_ports new_ports : List (Ends S K C)) (old_control new_control : Option (Ends S K C)) (old_clock new_clock : C)
     (lines : Option control.Input) (inputs : List Input)
-    (live : IsLive left written source_faults sink_faults readings plan base past old_ports new_ports old_control new_control old_clock new_clock)
+    (live : IsLive left written source_faults sink_faults readings plan segments old_ports new_ports old_control new_control old_clock new_clock)
     (have : HaveInputs left plan old_ports old_control lines inputs) where
-  arrivals_most : (weight : Arrival → ℕ) → ((reading : ℕ) (a : Arrival) → weight (streams.stamped_at reading a) ≡ weight a) → sum_by weight (all_arrived plan past) ≤ sum_by weight (arrivals_of inputs)
+  abbrev rows : List Row
+  rows = unbroken segments
+
+  arrivals_most : (weight : Arrival → ℕ) → ((reading : ℕ) (a : Arrival) → weight (streams.stamped_at reading a) ≡ weight a) → sum_by weight (all_arrived plan rows) ≤ sum_by weight (arrivals_of inputs)
   arrivals_most weight blind =
-      ports_most weight past plan.ports inputs have.each_input (λ place p i within.
+      ports_most weight rows plan.ports inputs have.each_input (λ place p i within.
       let d : Ends S K C = element old_ports place (omega (arith, have.each_port, within)) in
       let has = have.have place p d i within in
       let row = (live.ports place p d within).0 in
       let all = (slice_index_or inputs place i).arrivals in
-      let entered = arrived (number_of (slice_index_or plan.ports place p).number) past in
-      less weight entered row.0 (sum_by weight all)
-      (read_most weight blind (slice_index_or plan.ports place p).format (left (slice_index_or old_ports place d).source) (left (slice_index_or new_ports place d).source) has.0 all
-      (slice_index_or inputs place i).ending has.1 has.2 (entered ++ row.0) row.1 row.2.fits))
+      read_most weight blind (slice_index_or plan.ports place p).format (left (slice_index_or old_ports place d).source) (left (slice_index_or new_ports place d).source) has.0 all
+      (slice_index_or inputs place i).ending has.1 has.2 (arrived (number_of (slice_index_or plan.ports place p).number) rows) row.0 row.2.fits)
 
   lines_by : (weight : Line → ℕ) → ((reading : ℕ) (line : Line) → weight (control.stamped_at reading line) ≡ weight line)
-      → (old new : Option (Ends S K C)) (given : Option control.Input) → ControlOf left written source_faults sink_faults readings plan base past old new → HasLines left old given
-      → sum_by weight (entered_lines past) ≤ sum_by weight (lines_of given)
+      → (old new : Option (Ends S K C)) (given : Option control.Input) → ControlOf left written source_faults sink_faults readings plan segments old new → HasLines left old given
+      → sum_by weight (entered_lines rows) ≤ sum_by weight (lines_of given)
   lines_by weight blind None None None row has = omega (arith, ap (λ (l : List Line). sum_by weight l) row.none)
   lines_by weight blind None None (Some input) row has = absurd has
   lines_by weight blind None (Some new) given row has = absurd row
   lines_by weight blind (Some old) None given row has = absurd row
   lines_by weight blind (Some old) (Some new) None row has = absurd has
   lines_by weight blind (Some old) (Some new) (Some input) row has =
-      control_most weight blind (left old.source) (left new.source) has.0 input.arrivals input.ending has.1 has.2 (entered_lines past) (control_end past) row.fits
+      control_most weight blind (left old.source) (left new.source) has.0 input.arrivals input.ending has.1 has.2 (entered_lines rows) (Some row.ending) row.source.fits
 
-  pub no_more : (input_count past ≤ given_count (lines_of lines) (arrivals_of inputs)) × (held past ≤ given_octets (lines_of lines) (arrivals_of inputs))
+  pub no_more : (input_count (joined segments) ≤ given_count (lines_of lines) (arrivals_of inputs)) × (held (joined segments) ≤ given_octets (lines_of lines) (arrivals_of inputs))
   no_more =
-      let held_all = legal_given plan base past live.legal in (
+      let held_all = segments_given plan segments live.session.legal in (
         omega (
           arith,
           held_all.0,
           lines_by (λ line. 1) (λ reading line. refl) old_control new_control lines live.control have.commands,
           arrivals_most (λ a. 1) (λ reading a. refl),
-          sum_ones (entered_lines past),
+          sum_ones (entered_lines rows),
           sum_ones (lines_of lines),
-          sum_ones (all_arrived plan past),
+          sum_ones (all_arrived plan rows),
           sum_ones (arrivals_of inputs),
         ),
         omega (
@@ -100,14 +115,22 @@ module _ {S K C : Type 0} (left : S → Option (List ℕ)) (written : K → Opti
         ),
       )
 
-  module _ (valid : IsValidPlan plan) (within : IsWithinLimits plan base) where
-    pub few : length past ≤ entries_most (causes_in base lines inputs)
-    few =
-        few_of_fewer (length past) (input_count past) (given_count (lines_of lines) (arrivals_of inputs)) (length (base.rows the_vlan)) no_more.0
-        (few_entries plan base valid.port_count.1 within past live.legal)
+  module _ (valid : IsValidPlan plan) where
+    -- of each segment, within the limits of what it goes on from
+    pub few : (later before : List (List Row)) (segment : List Row) → segments ≡ later ++ segment ∷ before → (AreLegal plan before → IsWithinLimits plan (base_after plan before))
+        → length segment ≤ entries_most (causes_in (base_after plan before) lines inputs)
+    few later before segment split within =
+        let base = base_after plan before in
+        let one = one_of plan later before segment (subst (AreLegal plan) split live.session.legal) in
+        let all : input_count segment ≤ input_count (joined segments) = subst (λ (l : List (List Row)). input_count segment ≤ input_count (joined l)) (sym split) one.1 in
+        let most = no_more.0 in
+        few_of_fewer (length segment) (input_count segment) (given_count (lines_of lines) (arrivals_of inputs)) (length (base.rows the_vlan)) (omega (arith, all, most))
+        (few_entries plan base valid.port_count.1 (within one.0.2) segment one.0.0)
 
-    pub not_full : SufficesFor plan base lines inputs → has_paused_end past ≡ false
-    not_full suffices = none_full plan base valid.port_count.1 within past live.legal (record {
-      entries = fewer_causes (input_count past) (given_count (lines_of lines) (arrivals_of inputs)) (length (base.rows the_vlan)) plan.entries no_more.0 suffices.entries;
-      bytes = fewer_octets (held past) (given_octets (lines_of lines) (arrivals_of inputs)) plan.bytes no_more.1 suffices.bytes;
-    })
+    pub not_full : SufficesFor plan lines inputs → (length segments ≡ 1) × (has_paused_end (joined segments) ≡ false)
+    not_full suffices =
+        let most = no_more in
+        one_segment plan valid segments live.session (record {
+          entries = fewer (given_count (lines_of lines) (arrivals_of inputs) + 0) (input_count (joined segments)) plan.entries (omega (arith, most.0)) suffices.entries;
+          bytes = few_octets (held (joined segments)) (given_octets (lines_of lines) (arrivals_of inputs)) plan.bytes most.1 suffices.bytes;
+        })

@@ -8,9 +8,9 @@ use Rattle.savi_kinds.specs.Arrivals.{Input}
 use Rattle.savi_ends.specs.declared.world.Ends.{Ends}
 use Rattle.port_reader.specs.Inputs.{AreArrivals}
 use Rattle.cli_lang.specs.Arrivals as control
-use Rattle.checkpoint.specs.Bases.{Base}
+use Rattle.checkpoint.specs.Bases.{Base, empty}
 use Rattle.savi_history.specs.Vlans.{the_vlan}
-use Rattle.live_session.specs.LiveControl.{AreLiveLines}
+use Rattle.control_reader.specs.LiveLines.{AreLiveLines}
 use Rattle.savi_laws.specs.Budgets.{given_count, given_octets, lines_of, arrivals_of, Suffices}
 
 -- these octets, read to their end, are this input of a port, by the port's form; the stamps of a stream are free
@@ -37,10 +37,11 @@ pub record HaveInputs {S K C : Type 0} (left : S → Option (List ℕ)) (plan : 
   pub have : (place : ℕ) (p : PortPlan) (d : Ends S K C) (i : Input) → place < length plan.ports → HasInput left (slice_index_or plan.ports place p).format (slice_index_or ports place d).source (slice_index_or inputs place i)
   pub commands : HasLines left control_ends lines
 
--- what may bring entries about: the frames, longer frames and lines of these inputs, and addresses that had a state before
+-- what may bring entries of a segment about: the frames, longer frames and lines of these inputs, and addresses that have a
+-- state in what it goes on from
 abbrev pub causes_in : Base → Option control.Input → List Input → ℕ
 causes_in base lines inputs = given_count (lines_of lines) (arrivals_of inputs) + length (base.rows the_vlan)
 
--- the plan has room for any history of these inputs
-abbrev pub SufficesFor : Plan → Base → Option control.Input → List Input → Type 0
-SufficesFor plan base lines inputs = Suffices plan (causes_in base lines inputs) (given_octets (lines_of lines) (arrivals_of inputs))
+-- the plan has room for any session of these inputs in one segment
+abbrev pub SufficesFor : Plan → Option control.Input → List Input → Type 0
+SufficesFor plan lines inputs = Suffices plan (causes_in empty lines inputs) (given_octets (lines_of lines) (arrivals_of inputs))

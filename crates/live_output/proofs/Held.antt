@@ -1,16 +1,12 @@
 -- Octets that are gathered, and written in pieces.
-use Rattle.std.proofs.Common.{◌≡◌, ℕ, List, [], ◌∷◌, ◌++◌, refl, ap, sym, subst, ◌∙◌, append_assoc, append-nil, Option, Some, None}
+use Rattle.std.proofs.Common.{◌≡◌, ℕ, List, [], ◌++◌, refl, ap, sym, subst, ◌∙◌, append_assoc, append-nil, Option}
 use Rattle.savi_ends.specs.declared.sink.Put.{Put}
 use Rattle.savi_ends.specs.declared.sink.Put.TheVariants as put
 use Rattle.savi_ends.specs.Octets.{behind}
 use Rattle.savi_ends.specs.Writes.{Extends}
 use Rattle.savi_ends.proofs.Octets.{behind_again}
+use Rattle.live_session.proofs.StandsOn.{behind_none}
 use Rattle.live_output.specs.Writing.{Holds}
-
--- nothing was written
-pub behind_none : (o : Option (List ℕ)) → o ≡ behind o []
-behind_none None = refl
-behind_none (Some written) = ap (λ (l : List ℕ). Some l) (sym (append-nil written))
 
 -- all is gathered
 pub holds_all : (o : Option (List ℕ)) (octets : List ℕ) → Holds o o octets octets

@@ -1,5 +1,5 @@
 -- An output is its beginning and the records of its items, and that of more items goes on behind that of the first ones.
-use Rattle.std.proofs.Common.{◌≡◌, ℕ, zero, suc, ◌+◌, ◌<◌, List, [], ◌∷◌, ◌++◌, length, take, drop, map, get_or, refl, ap, sym, ◌∙◌, arith, append_assoc, append-nil, Option, Some, slice_get}
+use Rattle.std.proofs.Common.{◌≡◌, ℕ, zero, suc, ◌+◌, ◌<◌, List, [], ◌∷◌, ◌++◌, length, take, drop, map, get_or, refl, ap, sym, ◌∙◌, append_assoc, append-nil, Some, slice_get}
 use Rattle.std.proofs.lemmas.List.{take_more, take-append-drop}
 use Rattle.savi_kinds.specs.declared.plan.Format.{Format}
 use Rattle.savi_kinds.specs.declared.plan.Format.TheVariants.{Pcap, Stream}
@@ -8,7 +8,6 @@ use Rattle.pcap_io.specs.Captures as captures
 use Rattle.stream_io.specs.Records.{stream_text, record_text}
 use Rattle.savi_history.specs.Outputs.{sent_items}
 use Rattle.savi_history.specs.Queues.{Item}
-use Rattle.savi_core.specs.Batches.{item_with}
 use Rattle.live_session.specs.LiveOutputs.{output_text}
 use Rattle.live_output.specs.OutputParts.{beginning, record_of, records_of}
 

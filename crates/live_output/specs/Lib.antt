@@ -1,2 +1,3 @@
 pub mod OutputParts
 pub mod Writing
+pub mod Sending

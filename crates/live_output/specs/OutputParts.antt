@@ -1,5 +1,5 @@
 -- The parts of an output by its form: what stands in front of the first frame or probe, and the record of each.
-use Rattle.std.specs.Prelude.{ℕ, List, [], ◌∷◌, ◌++◌}
+use Rattle.std.specs.Prelude.{ℕ, Bool, true, false, List, [], ◌∷◌, ◌++◌}
 use Rattle.savi_kinds.specs.declared.plan.Format.{Format}
 use Rattle.savi_kinds.specs.declared.plan.Format.TheVariants.{Pcap, Stream}
 use Rattle.pcap_io.specs.Captures as captures
@@ -10,6 +10,11 @@ use Rattle.savi_history.specs.Queues.{Item}
 abbrev pub beginning : Format → List ℕ
 beginning Pcap = captures.header_text
 beginning Stream = []
+
+-- what has to stand there yet, where the output was begun or not
+abbrev pub beginning_left : Bool → Format → List ℕ
+beginning_left true format = []
+beginning_left false format = beginning format
 
 -- in a capture an item stands with its moment, in a stream behind its length
 abbrev pub record_of : Format → Item → List ℕ

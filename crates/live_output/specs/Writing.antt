@@ -1,5 +1,5 @@
 -- What a sink took of octets that are written in pieces.
-use Rattle.std.specs.Prelude.{◌≡◌, ℕ, ◌≤◌, List, ◌++◌, Option}
+use Rattle.std.specs.Prelude.{◌≡◌, ℕ, List, ◌++◌, Option}
 use Rattle.savi_ends.specs.Octets.{behind}
 
 -- What a sink took since then, and behind it what is gathered for it, are these octets.

@@ -1,3 +1,8 @@
+pub mod Adding
 pub mod Stays
 pub mod TicksStay
-pub mod RowsLater
+pub mod Same
+pub mod StandsOn
+pub mod TickerEnds
+pub mod RowsAtEnd
+pub mod TickerOpen

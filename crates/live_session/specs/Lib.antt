@@ -1,5 +1,5 @@
 pub mod LiveOutputs
-pub mod LiveControl
 pub mod Ticking
 pub mod LiveRows
 pub mod LiveSession
+pub mod Standing

@@ -1,4 +1,4 @@
--- What the readings of the ticker's clock are to the history.
+-- What the readings of the ticker's clock are to the segments of a history.
 use Rattle.std.specs.Prelude.{◌≡◌, ◌⊎◌, ℕ, Bool, true, false, List, [], ◌∷◌, ◌++◌, Option, Some, None}
 use Rattle.savi_kinds.specs.declared.plan.Plan.{Plan}
 use Rattle.savi_kinds.specs.declared.entry.Act.{Act}
@@ -6,7 +6,6 @@ use Rattle.savi_kinds.specs.declared.entry.Act.TheVariants as acts
 use Rattle.savi_kinds.specs.declared.entry.Who.{Who}
 use Rattle.savi_kinds.specs.declared.entry.Who.TheVariants.{Ingress, Control, Ticker, Egress}
 use Rattle.savi_kinds.specs.declared.entry.How.{How}
-use Rattle.savi_kinds.specs.declared.entry.How.TheVariants as hows
 use Rattle.hist_store.specs.Rows.{Row}
 use Rattle.checkpoint.specs.Bases.{Base}
 use Rattle.savi_history.specs.Limits.{has_room}
@@ -14,6 +13,7 @@ use Rattle.savi_history.specs.Moments.{moment_at}
 use Rattle.savi_history.specs.Offers.{due_by}
 use Rattle.savi_history.specs.Ticks.{HasChangedBy}
 use Rattle.savi_history.specs.Events.{Tick, row_of}
+use Rattle.savi_segments.specs.Segments.{base_after, joined}
 
 -- how the ticker has ended behind the end of a pass, by how it had ended before
 abbrev pub ticker_ended_by : Who → How → Option How → Option How
@@ -56,22 +56,13 @@ pub record HasNothingDue (plan : Plan) (base : Base) (past : List Row) (stamp : 
 abbrev pub IsPassedOver : Plan → Base → List Row → ℕ → Type 0
 IsPassedOver plan base past stamp = (has_room plan past ≡ false) ⊎ HasNothingDue plan base past stamp
 
--- The ticks of a history are these readings, the newest first, but for those that were passed over. Behind the last tick the
--- history may have gone on; and where a reading was passed over, that was so of what the history was then.
-abbrev pub Ticked : Plan → Base → List Row → List ℕ → Type 0
-Ticked plan base past [] = HasNoTick past
-Ticked plan base past (reading ∷ earlier) =
-    (newer : List Row) × (upto : List Row) × (past ≡ newer ++ upto) × HasNoTick newer
-    × (((older : List Row) × (upto ≡ row_of plan base older (Tick reading) ∷ older) × Ticked plan base older earlier)
-    ⊎ (IsPassedOver plan base upto reading × Ticked plan base upto earlier))
-
--- the readings of the ticker's clock, where the ticker has ended for a reason of its kind
-abbrev pub TickedUntil : Plan → Base → List Row → List ℕ → Option How → Type 0
-TickedUntil plan base past latest (Some hows.End) = Ticked plan base past latest
-TickedUntil plan base past latest (Some hows.Paused) = Ticked plan base past latest
-TickedUntil plan base past latest (Some hows.Quit) = ⊥
-TickedUntil plan base past latest (Some (hows.Malformed at)) = ⊥
-TickedUntil plan base past latest (Some (hows.Overlong at)) = ⊥
-TickedUntil plan base past latest (Some hows.Failed) = ⊥
-TickedUntil plan base past latest (Some hows.Unwritten) = ⊥
-TickedUntil plan base past latest None = ⊥
+-- The ticks of segments, the newest first, are these readings, the newest first, but for those that were passed over. Behind
+-- the last tick the segment may have gone on, and others begun; and where a reading was passed over, that was so of what a
+-- segment was then, from its own base on and before the ticker ended in it.
+abbrev pub Ticked : Plan → List (List Row) → List ℕ → Type 0
+Ticked plan segments [] = HasNoTick (joined segments)
+Ticked plan segments (reading ∷ earlier) =
+    (later : List (List Row)) × (newer : List Row) × (upto : List Row) × (before : List (List Row))
+    × (segments ≡ later ++ (newer ++ upto) ∷ before) × HasNoTick (joined later ++ newer)
+    × (((older : List Row) × (upto ≡ row_of plan (base_after plan before) older (Tick reading) ∷ older) × Ticked plan (older ∷ before) earlier)
+    ⊎ (IsPassedOver plan (base_after plan before) upto reading × (ticker_end upto ≡ None) × Ticked plan (upto ∷ before) earlier))

@@ -8,7 +8,6 @@ use Rattle.savi_kinds.specs.declared.plan.PortPlan.{PortPlan}
 use Rattle.savi_kinds.specs.declared.port.Port.{Port}
 use Rattle.savi_kinds.specs.Ports.{number_of}
 use Rattle.savi_kinds.specs.ValidPlan.{IsValidPlan, numbers_of}
-use Rattle.checkpoint.specs.Bases.{empty}
 use Rattle.savi_history.specs.Passes.{has_port, place_of, pass_count}
 use Rattle.savi_history.proofs.PassNumbers.{number_at, place_at, known_at}
 use Rattle.table_lock.specs.Passes.{AreAll, AreDealt, IsPassOf, lock_seats, pass_number, pass_seen, pass_sleeps_at}
@@ -16,7 +15,7 @@ use Rattle.table_lock.specs.declared.lock.TableLock.{TableLock}
 use Rattle.table_lock.specs.declared.pass.Pass.{Pass}
 use Rattle.core_keep.specs.declared.keep.KeptCore.{KeptCore}
 use Rattle.core_keep.specs.Pasts.{decoded}
-use Rattle.live_turns.specs.Seats.{IsNewPass, kept_fixed, lock_base, lock_plan}
+use Rattle.live_turns.specs.Seats.{IsDealtTo, kept_fixed, lock_plan}
 use Rattle.live_switch.specs.Dealt.{AreFor, IsFresh}
 
 -- the element behind a list
@@ -27,28 +26,28 @@ pub at_front : {X : Type 0} (xs : List X) (x : X) (k : ℕ) (d : X) → k < leng
 at_front xs x k d within = get_or_append_left xs (x ∷ []) d k within
 
 -- the number of the port at a place
-number_here : (ports : List PortPlan) (k n : ℕ) → k < length ports → ((p : PortPlan) → n ≡ number_of (slice_index_or ports k p).number) → n ≡ get_or (numbers_of ports) k 0
+pub number_here : (ports : List PortPlan) (k n : ℕ) → k < length ports → ((p : PortPlan) → n ≡ number_of (slice_index_or ports k p).number) → n ≡ get_or (numbers_of ports) k 0
 number_here [] k n within is = absurd (omega arith)
 number_here (x ∷ xs) zero n within is = is x
 number_here (x ∷ xs) (suc k) n within is = number_here xs k n (omega arith) is
 
 module _ (lock : TableLock KeptCore) where
-  fresh_at : lock_base lock ≡ empty → (number : ℕ) (passes : List Pass) (d : Pass) → IsPassOf kept_fixed lock (slice_index_or passes number d) → (pass_number (slice_index_or passes number d) ≡ number) × (pass_seen (slice_index_or passes number d) ≡ []) × (pass_sleeps_at (slice_index_or passes number d) ≡ None) → IsFresh lock number (slice_index_or passes number d)
-  fresh_at start number passes d of new = record { of = of; start = start; number_is = new.0; nothing = ap decoded new.1; placeless = new.2 }
+  fresh_at : (number : ℕ) (passes : List Pass) (d : Pass) → IsPassOf kept_fixed lock (slice_index_or passes number d) → (pass_number (slice_index_or passes number d) ≡ number) × (pass_seen (slice_index_or passes number d) ≡ []) × (pass_sleeps_at (slice_index_or passes number d) ≡ None) → IsFresh lock number (slice_index_or passes number d)
+  fresh_at number passes d of new = record { of = of; number_is = new.0; nothing = ap decoded new.1; placeless = new.2 }
 
   -- all passes of a lock, as they are dealt
-  pub all_dealt : (passes : List Pass) → AreAll kept_fixed lock passes → AreDealt passes → lock_seats lock ≡ pass_count (lock_plan lock) → lock_base lock ≡ empty → AreFor lock (length (lock_plan lock).ports) passes
-  all_dealt passes all dealt seats start =
+  pub all_dealt : (passes : List Pass) → AreAll kept_fixed lock passes → AreDealt passes → lock_seats lock ≡ pass_count (lock_plan lock) → AreFor lock (length (lock_plan lock).ports) passes
+  all_dealt passes all dealt seats =
       let n : ℕ = length (lock_plan lock).ports in
       let size : length passes ≡ 2 * n + 2 = all.0 ∙ seats in
       record {
         size = omega arith;
         inputs = λ k d within.
             let inside : k < length passes = omega arith in
-            fresh_at start k passes d (all.1 k d inside) (dealt k d inside);
+            fresh_at k passes d (all.1 k d inside) (dealt k d inside);
         others = λ k d within.
             let inside : n + k < length passes = omega arith in
-            fresh_at start (n + k) passes d (all.1 (n + k) d inside) (dealt (n + k) d inside);
+            fresh_at (n + k) passes d (all.1 (n + k) d inside) (dealt (n + k) d inside);
       }
 
   -- what was taken off: the output's pass, from behind, and then the input's
@@ -92,22 +91,22 @@ module _ (lock : TableLock KeptCore) where
         let n = dealt.size in
         (omega arith, omega arith)
 
-    pub ticker_new : IsNewPass lock Ticker ticker
-    ticker_new =
+    pub ticker_dealt : IsDealtTo lock Ticker ticker
+    ticker_dealt =
         let fresh : IsFresh lock (length (lock_plan lock).ports + 1) ticker =
         subst (IsFresh lock (length (lock_plan lock).ports + 1))
         (ap (λ (ps : List Pass). slice_index_or ps (0 + 1) ticker) last ∙ at_end most ticker (0 + 1) ticker (let s = sizes in omega arith))
         (dealt.others 1 ticker (omega arith)) in
-        record { of = fresh.of; start = fresh.start; known = refl; number_is = fresh.number_is; nothing = fresh.nothing; placeless = fresh.placeless }
+        record { of = fresh.of; known = refl; number_is = fresh.number_is; nothing = fresh.nothing; placeless = fresh.placeless }
 
-    pub control_new : IsNewPass lock Control control
-    control_new =
+    pub control_dealt : IsDealtTo lock Control control
+    control_dealt =
         let fresh : IsFresh lock (length (lock_plan lock).ports + 0) control =
         subst (IsFresh lock (length (lock_plan lock).ports + 0))
         (ap (λ (ps : List Pass). slice_index_or ps (0 + 0) control) last ∙ at_front most ticker (0 + 0) control (let s = sizes in omega arith)
         ∙ ap (λ (ps : List Pass). slice_index_or ps (0 + 0) control) first ∙ at_end bare control (0 + 0) control (let s = sizes in omega arith))
         (dealt.others 0 control (omega arith)) in
-        record { of = fresh.of; start = fresh.start; known = refl; number_is = let n = fresh.number_is in omega arith; nothing = fresh.nothing; placeless = fresh.placeless }
+        record { of = fresh.of; known = refl; number_is = let n = fresh.number_is in omega arith; nothing = fresh.nothing; placeless = fresh.placeless }
 
   -- a fresh pass is that of a port's input, or output, at its place of the plan
   module _ (place : ℕ) (port : Port) (valid : IsValidPlan (lock_plan lock)) (within : place < length (lock_plan lock).ports)
@@ -121,13 +120,12 @@ module _ (lock : TableLock KeptCore) where
     is_placed : place_of (lock_plan lock) (number_of port) ≡ place
     is_placed = ap (λ (n : ℕ). place_of (lock_plan lock) n) port_number ∙ place_at (lock_plan lock) place valid.ports within
 
-    pub input_new : (pass : Pass) → IsFresh lock place pass → IsNewPass lock (Ingress port) pass
-    input_new pass fresh = record { of = fresh.of; start = fresh.start; known = is_known; number_is = fresh.number_is ∙ sym is_placed; nothing = fresh.nothing; placeless = fresh.placeless }
+    pub input_dealt : (pass : Pass) → IsFresh lock place pass → IsDealtTo lock (Ingress port) pass
+    input_dealt pass fresh = record { of = fresh.of; known = is_known; number_is = fresh.number_is ∙ sym is_placed; nothing = fresh.nothing; placeless = fresh.placeless }
 
-    pub output_new : (pass : Pass) → IsFresh lock (length (lock_plan lock).ports + (2 + place)) pass → IsNewPass lock (Egress port) pass
-    output_new pass fresh = record {
+    pub output_dealt : (pass : Pass) → IsFresh lock (length (lock_plan lock).ports + (2 + place)) pass → IsDealtTo lock (Egress port) pass
+    output_dealt pass fresh = record {
       of = fresh.of;
-      start = fresh.start;
       known = is_known;
       number_is = let a = fresh.number_is in let b = is_placed in omega arith;
       nothing = fresh.nothing;

@@ -1,6 +1,16 @@
 pub mod Dealing
 pub mod Popped
 pub mod Seating
+pub mod Opening
+pub mod Locking
 pub mod Joining
-pub mod Sharing
+pub mod Overs
+pub mod Shifts
 pub mod Closing
+pub mod Running
+pub mod Filling
+pub mod Gathering
+pub mod Beginning
+pub mod Living
+pub mod Roundwise
+pub mod Finishing

@@ -1,18 +1,15 @@
 -- The passes of workers that aren't running yet.
 use Rattle.std.specs.Prelude.{◌≡◌, ℕ, ◌+◌, ◌<◌, List, [], length, slice_index_or, None}
-use Rattle.checkpoint.specs.Bases.{empty}
 use Rattle.table_lock.specs.Passes.{IsPassOf, pass_number, pass_sleeps_at}
 use Rattle.table_lock.specs.declared.lock.TableLock.{TableLock}
 use Rattle.table_lock.specs.declared.pass.Pass.{Pass}
 use Rattle.core_keep.specs.declared.keep.KeptCore.{KeptCore}
 use Rattle.core_keep.specs.Seen.{past_seen}
-use Rattle.live_turns.specs.Seats.{kept_fixed, lock_base, lock_plan}
+use Rattle.live_turns.specs.Seats.{kept_fixed, lock_plan}
 
--- the pass of the lock with this number, which has seen nothing, of a history that began with nothing, and has no place to
--- sleep at
+-- the pass of the lock with this number, which has seen nothing of the segment, and has no place to sleep at
 pub record IsFresh (lock : TableLock KeptCore) (number : ℕ) (pass : Pass) : Type 0 where
   pub of : IsPassOf kept_fixed lock pass
-  pub start : lock_base lock ≡ empty
   pub number_is : pass_number pass ≡ number
   pub nothing : past_seen pass ≡ []
   pub placeless : pass_sleeps_at pass ≡ None

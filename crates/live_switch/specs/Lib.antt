@@ -1,6 +1,13 @@
-pub mod Dealt
 pub mod Seated
+pub mod Open
+pub mod Dealt
 pub mod Joined
-pub mod Served
-pub mod Sharing
 pub mod Works
+pub mod Served
+pub mod Rounds
+pub mod Segments
+pub mod Ran
+pub mod Sharing
+pub mod Filled
+pub mod Beginnings
+pub mod Endings

@@ -1,15 +1,17 @@
-//! What the workers of a port have beside its ends.
+//! What the workers of a port and of control have beside its ends.
 
-ghost use Rattle.std.specs.Prelude.{IfOk, length};
-ghost use Rattle.live_switch.specs.Seated.{AreSeats};
+ghost use Rattle.std.specs.Prelude.{◌≡◌, IfOk, IfSome, is_some, length};
+ghost use Rattle.live_switch.specs.Seated.{AreSeats, IsLineSeat};
 
+use control_reader::LineArrival;
+use intake_ring::{Filler, IntakeRing, Taker};
 use live_output::OutputRoom;
 use parcel_ring::{ParcelFiller, ParcelRing, ParcelTaker};
 use savi_kinds::{Format, Plan, Port};
 use std::alloc::{AllocError, Global};
 use std::sync::Wait;
 
-/// So many arrivals of a port may wait for their judge.
+/// So many arrivals of a port may wait for their judge, and so many lines for who answers them.
 const RING_DEPTH: u32 = 64;
 
 /// A port of the plan, the form of what is read and written there, room for what is written at once, and the two ends of the
@@ -41,4 +43,23 @@ pub(crate) fn seats_of<R: Wait>(rt: &R, alloc: Global, plan: &Plan) -> Result<Ve
         });
     }
     Ok(seats)
+}
+
+/// The two ends of the ring by which lines go from control's reader to who answers them.
+#[derive(Drop)]
+pub(crate) struct LineSeat {
+    pub(crate) filler: Filler<LineArrival>,
+    pub(crate) taker: Taker<LineArrival>,
+}
+
+/// Control's ring, some 10 KB, where there is control. `Err` is want of memory.
+pub(crate) fn line_seat_of(alloc: Global, has_control: bool) -> Result<Option<LineSeat>, AllocError>
+    ensures there { IfOk result (λ seat. is_some seat ≡ has_control) }
+    ensures seat { IfOk result (λ seat. IfSome seat IsLineSeat) }
+{
+    if !has_control {
+        return Ok(None);
+    }
+    let (filler, taker) = IntakeRing::make(alloc, RING_DEPTH)?;
+    Ok(Some(LineSeat { filler, taker }))
 }

@@ -1,28 +1,27 @@
--- What one more reading of the ticker's clock comes to, by what its turn did.
-use Rattle.std.proofs.Common.{◌≡◌, ℕ, Bool, true, false, if◌then◌else◌, List, [], ◌∷◌, reverse, refl, sym, ap, subst, Option, Some, inl, inr}
+-- What one more reading of the ticker's clock comes to, by what its turn did, in a segment that goes on from others.
+use Rattle.std.proofs.Common.{◌≡◌, ℕ, false, List, [], ◌∷◌, reverse, refl, sym, subst, None, Option, inl, inr}
 use Rattle.std.proofs.lemmas.List.{reverse-append}
 use Rattle.savi_kinds.specs.declared.plan.Plan.{Plan}
 use Rattle.savi_kinds.specs.declared.entry.Who.TheVariants.{Ticker}
 use Rattle.savi_kinds.specs.declared.entry.How.{How}
-use Rattle.savi_kinds.specs.declared.entry.How.TheVariants as hows
 use Rattle.savi_ends.specs.Readings.{AddsReading}
 use Rattle.stream_io.specs.Calls.{AddsReadings}
-use Rattle.stream_io.proofs.ClockReadings.{adds_none, adds_more}
+use Rattle.stream_io.proofs.ClockReadings.{adds_more}
 use Rattle.hist_store.specs.Rows.{Row}
-use Rattle.checkpoint.specs.Bases.{empty}
-use Rattle.savi_history.specs.Endings.{has_pause}
+use Rattle.checkpoint.specs.Bases.{Base}
 use Rattle.savi_history.specs.Events.{Tick, End, row_of}
 use Rattle.savi_history.specs.Legal.{IsLegal}
-use Rattle.savi_history.specs.Passes.{ticker_pass}
+use Rattle.savi_history.specs.Passes.{has_ended, ticker_pass}
 use Rattle.savi_history.specs.Replay.{closing, with_event}
-use Rattle.core_keep.specs.Seen.{IsLater, past_seen}
-use Rattle.core_keep.specs.declared.keep.KeptCore.{KeptCore}
+use Rattle.savi_segments.specs.Segments.{base_after}
 use Rattle.table_lock.specs.declared.lock.TableLock.{TableLock}
 use Rattle.table_lock.specs.declared.pass.Pass.{Pass}
-use Rattle.live_session.specs.LiveRows.{TickerRow}
-use Rattle.live_session.specs.Ticking.{HasNoTick, IsPassedOver, Ticked, TickedUntil, ticker_end}
-use Rattle.live_session.proofs.TicksStay.{ticks_stay}
-use Rattle.live_turns.specs.Seats.{IsAt, lock_plan}
+use Rattle.core_keep.specs.declared.keep.KeptCore.{KeptCore}
+use Rattle.live_session.specs.Standing.{TickerStands}
+use Rattle.live_session.specs.Ticking.{IsPassedOver, Ticked, ticker_end}
+use Rattle.live_session.proofs.TickerOpen.{ticker_open}
+use Rattle.live_session.proofs.TicksStay.{ticked_more}
+use Rattle.live_turns.specs.Seats.{IsAt}
 use Rattle.live_turns.specs.Turned.{Turned}
 use Rattle.live_turns.specs.TurnKinds.{DidTick, ends_ticker}
 use Rattle.live_turns.specs.declared.kinds.TickTurn.{TickTurn}
@@ -39,77 +38,45 @@ reads_more : (old mid now : Option (List ℕ)) (latest : List ℕ) (reading : �
 reads_more old mid now latest reading adds one =
     subst (λ (l : List ℕ). AddsReadings old now l) (sym (reverse-append (reading ∷ []) latest)) (adds_more old mid now (reverse latest) reading adds one)
 
--- the clock has made these readings so far, the newest first, and the ticks of the history are of them
-pub record HasTicked (plan : Plan) (past : List Row) (old now : Option (List ℕ)) : Type 0 where
-  pub latest : List ℕ
-  pub reads : AddsReadings old now (reverse latest)
-  pub ticked : Ticked plan empty past latest
+module _ (plan : Plan) (before : List (List Row)) where
+  abbrev base : Base
+  base = base_after plan before
 
-pub nothing_yet : (plan : Plan) (past : List Row) (o : Option (List ℕ)) → past ≡ [] → HasTicked plan past o o
-nothing_yet plan past o none = record {
-  latest = [];
-  reads = adds_none o;
-  ticked = subst (λ (p : List Row). HasNoTick p) (sym none) tt;
-}
+  -- a tick of this reading was made
+  made : (found : List Row) (reading : ℕ) (latest : List ℕ) → Ticked plan (found ∷ before) latest → Ticked plan (with_event plan base found (Tick reading) ∷ before) (reading ∷ latest)
+  made found reading latest ticked = ([], [], with_event plan base found (Tick reading), before, refl, tt, inl (found, refl, ticked))
 
-module _ (plan : Plan) where
-  -- behind the ticker's end the ticks are as before
-  behind_end : (found : List Row) (how : How) (latest : List ℕ) → Ticked plan empty found latest → Ticked plan empty (with_event plan empty found (End Ticker how)) latest
-  behind_end found how [] ticked = (refl, ticked)
-  behind_end found how (reading ∷ earlier) ticked = (
-    row_of plan empty found (End Ticker how) ∷ ticked.0,
-    ticked.1,
-    ap (λ (rows : List Row). row_of plan empty found (End Ticker how) ∷ rows) ticked.2,
-    (refl, ticked.3),
-    ticked.4,
-  )
+  -- it was passed over, before the ticker ended
+  passed : (found : List Row) (reading : ℕ) (latest : List ℕ) → IsPassedOver plan base found reading → ticker_end found ≡ None → Ticked plan (found ∷ before) latest → Ticked plan (found ∷ before) (reading ∷ latest)
+  passed found reading latest none goes_on ticked = ([], [], found, before, refl, tt, inr (none, goes_on, ticked))
 
-  -- it ended, or was paused
-  ends_so : (past : List Row) (latest : List ℕ) (paused : Bool) → Ticked plan empty past latest → TickedUntil plan empty past latest (Some (if paused then hows.Paused else hows.End))
-  ends_so past latest true ticked = ticked
-  ends_so past latest false ticked = ticked
+  -- behind the ticker's end, or its pause, the ticks are as before
+  behind_end : (found : List Row) (how : How) (latest : List ℕ) → Ticked plan (found ∷ before) latest → Ticked plan (with_event plan base found (End Ticker how) ∷ before) latest
+  behind_end found how latest ticked = ticked_more plan (row_of plan base found (End Ticker how) ∷ []) found before (refl, tt) latest ticked
 
-  made : (found : List Row) (reading : ℕ) (latest : List ℕ) → Ticked plan empty found latest → Ticked plan empty (with_event plan empty found (Tick reading)) (reading ∷ latest)
-  made found reading latest ticked = ([], with_event plan empty found (Tick reading), refl, tt, inl (found, refl, ticked))
-
-  idle : (found : List Row) (reading : ℕ) (latest : List ℕ) → IsPassedOver plan empty found reading → Ticked plan empty found latest → Ticked plan empty found (reading ∷ latest)
-  idle found reading latest none ticked = ([], found, refl, tt, inr (none, ticked))
-
-module _ (lock : TableLock KeptCore) (before after : Pass) (stamp : ℕ) where
-  -- what the turn found holds the ticks as the pass has seen them
-  found_so : (found : List Row) (latest : List ℕ) → IsLater (ticker_pass (lock_plan lock)) (past_seen before) found → IsLegal (lock_plan lock) empty found → Ticked (lock_plan lock) empty (past_seen before) latest → Ticked (lock_plan lock) empty found latest
-  found_so found latest later legal ticked = ticks_stay (lock_plan lock) empty (past_seen before) found latest (Some hows.End) legal later ticked
-
-  module _ (old mid now : Option (List ℕ)) (so_far : HasTicked (lock_plan lock) (past_seen before) old mid) (reading : AddsReading mid now stamp) where
-    pub made_tick : Turned lock Ticker before after (DidTick stamp ticks.Made) → HasTicked (lock_plan lock) (past_seen after) old now
-    made_tick turn = record {
-      latest = stamp ∷ so_far.latest;
-      reads = reads_more old mid now so_far.latest stamp so_far.reads reading;
-      ticked = subst (λ (p : List Row). Ticked (lock_plan lock) empty p (stamp ∷ so_far.latest)) (sym turn.did.2)
-          (made (lock_plan lock) turn.found stamp so_far.latest (found_so turn.found so_far.latest turn.later turn.legal so_far.ticked));
+  module _ {C : Type 0} (readings : C → Option (List ℕ)) (first old new : C) (stamp : ℕ) (reading : AddsReading (readings old) (readings new) stamp)
+      (found : List Row) (legal : IsLegal plan base found) (runs : has_ended base (ticker_pass plan) found ≡ false) (stands : TickerStands readings plan (found ∷ before) first old) where
+    -- with one more reading
+    with_reading : (now : List Row) → Ticked plan (now ∷ before) (stamp ∷ stands.latest) → TickerStands readings plan (now ∷ before) first new
+    with_reading now ticked = record {
+      latest = stamp ∷ stands.latest;
+      reads = reads_more (readings first) (readings old) (readings new) stands.latest stamp stands.reads reading;
+      ticked = ticked;
     }
 
-    pub idle_tick : Turned lock Ticker before after (DidTick stamp ticks.Idle) → HasTicked (lock_plan lock) (past_seen after) old now
-    idle_tick turn = record {
-      latest = stamp ∷ so_far.latest;
-      reads = reads_more old mid now so_far.latest stamp so_far.reads reading;
-      ticked = subst (λ (p : List Row). Ticked (lock_plan lock) empty p (stamp ∷ so_far.latest)) (sym turn.did.2)
-          (idle (lock_plan lock) turn.found stamp so_far.latest turn.did.0 (found_so turn.found so_far.latest turn.later turn.legal so_far.ticked));
-    }
-
--- the worker is given back with the pass and the clock
-pub row_as : {C : Type 0} (readings : C → Option (List ℕ)) (plan : Plan) (pass back : Pass) (old now end : C) → back ≡ pass → end ≡ now → TickerRow readings plan empty (past_seen pass) old now → TickerRow readings plan empty (past_seen back) old end
-row_as {C} readings plan pass back old now end same_pass same_clock row =
-    subst (λ (p : Pass). TickerRow readings plan empty (past_seen p) old end) (sym same_pass) (subst (λ (clock : C). TickerRow readings plan empty (past_seen pass) old clock) (sym same_clock) row)
-
-module _ {C : Type 0} (readings : C → Option (List ℕ)) (lock : TableLock KeptCore) (before after : Pass) (stamp : ℕ) (old mid now : C)
-    (so_far : HasTicked (lock_plan lock) (past_seen before) (readings old) (readings mid)) (reading : AddsReading (readings mid) (readings now) stamp) where
-  pub last_row : Turned lock Ticker before after (DidTick stamp ticks.Ended) → TickerRow readings (lock_plan lock) empty (past_seen after) old now
-  last_row turn = record {
-    latest = stamp ∷ so_far.latest;
-    reads = reads_more (readings old) (readings mid) (readings now) so_far.latest stamp so_far.reads reading;
-    ticked = subst (λ (p : List Row). TickedUntil (lock_plan lock) empty p (stamp ∷ so_far.latest) (ticker_end p)) (sym turn.did.2)
-        (ends_so (lock_plan lock) (with_event (lock_plan lock) empty turn.found (End Ticker (closing turn.found))) (stamp ∷ so_far.latest) (has_pause turn.found)
-        (behind_end (lock_plan lock) turn.found (closing turn.found) (stamp ∷ so_far.latest)
-        (idle (lock_plan lock) turn.found stamp so_far.latest turn.did.0 (found_so lock before after stamp turn.found so_far.latest turn.later turn.legal so_far.ticked))));
-  }
+    -- by what its turn did
+    pub ticks_by : (came : TickTurn) (now : List Row) → DidTick stamp came plan base found now → TickerStands readings plan (now ∷ before) first new
+    ticks_by ticks.Made now did =
+        subst (λ (rows : List Row). TickerStands readings plan (rows ∷ before) first new) (sym did.2)
+        (with_reading (with_event plan base found (Tick stamp)) (made found stamp stands.latest stands.ticked))
+    ticks_by ticks.Idle now did =
+        subst (λ (rows : List Row). TickerStands readings plan (rows ∷ before) first new) (sym did.2)
+        (with_reading found (passed found stamp stands.latest did.0 (ticker_open plan base found legal runs) stands.ticked))
+    ticks_by ticks.Full now did =
+        subst (λ (rows : List Row). TickerStands readings plan (rows ∷ before) first new) (sym did.2)
+        (with_reading found (passed found stamp stands.latest (inl did.0) (ticker_open plan base found legal runs) stands.ticked))
+    ticks_by ticks.Ended now did =
+        subst (λ (rows : List Row). TickerStands readings plan (rows ∷ before) first new) (sym did.2)
+        (with_reading (with_event plan base found (End Ticker (closing found)))
+        (behind_end found (closing found) (stamp ∷ stands.latest)
+        (passed found stamp stands.latest did.0 (ticker_open plan base found legal runs) stands.ticked)))

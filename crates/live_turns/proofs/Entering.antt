@@ -13,7 +13,7 @@ use Rattle.savi_history.specs.Passes.{has_ended, pass_of}
 use Rattle.savi_history.specs.Queues.{Item}
 use Rattle.savi_history.specs.Replay.{closing, with_event}
 use Rattle.savi_history.proofs.Waiting.{ended_now}
-use Rattle.live_turns.specs.TurnKinds.{DidDrain, DidEnd, DidInput, DidLine, DidTick, IsFrame, ends_egress, ends_ticker, maker_of}
+use Rattle.live_turns.specs.TurnKinds.{DidDrain, DidEnd, DidInput, DidLine, DidLook, DidTick, IsFrame, ends_egress, ends_ticker, maker_of}
 use Rattle.live_turns.specs.declared.kinds.TickTurn.{TickTurn}
 use Rattle.live_turns.specs.declared.kinds.TickTurn.TheVariants as ticks
 use Rattle.live_turns.specs.declared.kinds.DrainTurn.{DrainTurn}
@@ -27,6 +27,10 @@ module _ (plan : Plan) (base : Base) (past now : List Row) where
 
   pub end_state : (who : Who) (how : How) → DidEnd who how plan base past now → has_ended base (pass_of plan who) now ≡ true
   end_state who how did = behind_end who how did
+
+  pub look_state : (who : Who) (paused : Bool) → has_ended base (pass_of plan who) past ≡ false → DidLook who paused plan base past now → has_ended base (pass_of plan who) now ≡ paused
+  look_state who true running did = behind_end who hows.Paused did.1
+  look_state who false running did = ap (has_ended base (pass_of plan who)) did.1 ∙ running
 
   pub frame_state : (event : Event) (entered : Bool) → IsFrame event → has_ended base (pass_of plan (maker_of event)) past ≡ false → DidInput event entered plan base past now → has_ended base (pass_of plan (maker_of event)) now ≡ not entered
   frame_state event false frame running did = behind_end (maker_of event) hows.Paused did.1
@@ -44,6 +48,7 @@ module _ (plan : Plan) (base : Base) (past now : List Row) where
   pub tick_state : (stamp : ℕ) (came : TickTurn) → has_ended base (pass_of plan Ticker) past ≡ false → DidTick stamp came plan base past now → has_ended base (pass_of plan Ticker) now ≡ ends_ticker came
   tick_state stamp ticks.Made running did = ap (has_ended base (pass_of plan Ticker)) did.2 ∙ running
   tick_state stamp ticks.Idle running did = ap (has_ended base (pass_of plan Ticker)) did.2 ∙ running
+  tick_state stamp ticks.Full running did = ap (has_ended base (pass_of plan Ticker)) did.2 ∙ running
   tick_state stamp ticks.Ended running did = behind_end Ticker (closing past) did.2
 
   pub drain_state : (port : Port) (batch : List Item) (came : DrainTurn) → has_ended base (pass_of plan (Egress port)) past ≡ false → DidDrain port batch came plan base past now → has_ended base (pass_of plan (Egress port)) now ≡ ends_egress came
@@ -58,6 +63,10 @@ module _ (plan : Plan) (base : Base) (past now : List Row) where
   pub end_one : (who : Who) (how : How) → DidEnd who how plan base past now → MakesOne who
   end_one who how did = inr (End who how, refl, did)
 
+  pub look_one : (who : Who) (paused : Bool) → DidLook who paused plan base past now → MakesOne who
+  look_one who true did = end_one who hows.Paused did.1
+  look_one who false did = inl did.1
+
   pub frame_one : (event : Event) (entered : Bool) → DidInput event entered plan base past now → MakesOne (maker_of event)
   frame_one event true did = inr (event, refl, did.1)
   frame_one event false did = end_one (maker_of event) hows.Paused did.1
@@ -69,6 +78,7 @@ module _ (plan : Plan) (base : Base) (past now : List Row) where
   pub tick_one : (stamp : ℕ) (came : TickTurn) → DidTick stamp came plan base past now → MakesOne Ticker
   tick_one stamp ticks.Made did = inr (Tick stamp, refl, did.2)
   tick_one stamp ticks.Idle did = inl did.2
+  tick_one stamp ticks.Full did = inl did.2
   tick_one stamp ticks.Ended did = end_one Ticker (closing past) did.2
 
   pub drain_one : (port : Port) (batch : List Item) (came : DrainTurn) → DidDrain port batch came plan base past now → MakesOne (Egress port)

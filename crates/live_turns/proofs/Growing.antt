@@ -26,7 +26,7 @@ use Rattle.live_turns.specs.declared.kinds.TickTurn.{TickTurn}
 use Rattle.live_turns.specs.declared.kinds.TickTurn.TheVariants as ticks
 use Rattle.live_turns.specs.declared.kinds.DrainTurn.{DrainTurn}
 use Rattle.live_turns.specs.declared.kinds.DrainTurn.TheVariants as drains
-use Rattle.live_turns.specs.TurnKinds.{DidDrain, DidEnd, DidTick, IsFrame}
+use Rattle.live_turns.specs.TurnKinds.{DidDrain, DidEnd, DidLook, DidTick, IsFrame}
 use Rattle.live_turns.specs.Wakes.{HasAll, HasGrown, HasGrownPorts, MayHaveQueued, WokeGrown, was_woken}
 use Rattle.table_lock.specs.declared.lock.sleeping.Woken.{Woken}
 
@@ -110,6 +110,11 @@ module _ (plan : Plan) (base : Base) (past : List Row) where
       let more : HasGrown plan base past past to = subst (λ (rows : List Row). HasGrown plan base past rows to) same grown in
       absurd (omega (arith, more))
 
+  -- nor behind a look at the room
+  pub none_grown_look : (who : Who) (paused : Bool) (now : List Row) (woken : List (Option Woken)) → DidLook who paused plan base past now → WokeGrown woken plan base past now
+  none_grown_look who true now woken did = none_grown_end who hows.Paused now woken did.1
+  none_grown_look who false now woken did = none_grown_still now woken did.1
+
   drain_shorter : (count : ℕ) (waiting : List Item) → (b : Bool) → length waiting < length (if b then drop count waiting else waiting) → ⊥
   drain_shorter count waiting true grown = let size = length-drop count waiting in omega (arith, grown, size)
   drain_shorter count waiting false grown = omega (arith, grown)
@@ -124,6 +129,7 @@ module _ (plan : Plan) (base : Base) (past : List Row) where
   pub tick_grown : (stamp : ℕ) (came : TickTurn) (now : List Row) (woken : List (Option Woken)) → DidTick stamp came plan base past now → ((came ≡ ticks.Idle → ⊥) → (port : Port) → was_woken woken (number_of port) ≡ true) → WokeGrown woken plan base past now
   tick_grown stamp ticks.Made now woken did all = λ to of grown. all (λ e. cc) to
   tick_grown stamp ticks.Idle now woken did all = none_grown_still now woken did.2
+  tick_grown stamp ticks.Full now woken did all = none_grown_still now woken did.2
   tick_grown stamp ticks.Ended now woken did all = λ to of grown. all (λ e. cc) to
 
 -- ports that are told are woken

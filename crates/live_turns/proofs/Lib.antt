@@ -1,8 +1,11 @@
+pub mod OverSegments
 pub mod Seating
 pub mod OpenInputs
 pub mod Closing
 pub mod PassedOver
 pub mod Entering
+pub mod MadeOnly
 pub mod Turning
 pub mod Growing
 pub mod WokenPorts
+pub mod OpenEnds

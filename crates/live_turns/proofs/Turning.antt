@@ -1,5 +1,5 @@
 -- A turn at the lock: what it finds, and what the pass knows behind it.
-use Rattle.std.proofs.Common.{◌≡◌, ℕ, Bool, List, [], ◌∷◌, ◌++◌, refl, ap, sym, ◌∙◌, subst, inl, inr}
+use Rattle.std.proofs.Common.{◌≡◌, ℕ, Bool, List, [], ◌∷◌, ◌++◌, ap, sym, ◌∙◌, subst, inl, inr}
 use Rattle.savi_kinds.specs.declared.plan.Plan.{Plan}
 use Rattle.savi_kinds.specs.declared.entry.Who.{Who}
 use Rattle.table_lock.specs.declared.lock.TableLock.{TableLock}
@@ -8,9 +8,9 @@ use Rattle.table_lock.specs.Entries.{EntryList, StartsWith, mine}
 use Rattle.table_lock.specs.Passes.{IsPassOf, lock_first, pass_number, pass_own, pass_seen, pass_sleeps_at}
 use Rattle.table_lock.specs.Turns.{IsOrGrowsBy}
 use Rattle.hist_store.specs.Rows.{Row}
-use Rattle.checkpoint.specs.Bases.{Base, empty}
+use Rattle.checkpoint.specs.Bases.{Base}
 use Rattle.checkpoint.specs.Columns as columns
-use Rattle.savi_history.specs.Events.{Event, Frame, Long, Command, Tick, Drain, End, row_of}
+use Rattle.savi_history.specs.Events.{row_of}
 use Rattle.savi_history.specs.Legal.{IsLegal, IsOpen}
 use Rattle.savi_history.specs.Passes.{has_ended, pass_of}
 use Rattle.savi_core.specs.Machines.{base_of}
@@ -21,16 +21,16 @@ use Rattle.core_keep.specs.Seen.{IsLater, past_seen}
 use Rattle.core_keep.proofs.Goings.{later_of}
 use Rattle.core_keep.proofs.PastsRead.{past_again}
 use Rattle.core_keep.proofs.BasesApart.{one_fixed}
-use Rattle.live_turns.specs.Seats.{IsAt, IsRunning, kept_fixed, lock_plan}
-use Rattle.live_turns.specs.TurnKinds.{maker_of}
+use Rattle.live_turns.specs.Seats.{IsAt, IsRunning, kept_fixed, lock_base, lock_plan}
 use Rattle.live_turns.specs.Turned.{Turned}
 use Rattle.live_turns.proofs.Entering.{MakesOne}
+use Rattle.live_turns.proofs.MadeOnly.{by_maker}
 use Rattle.live_turns.proofs.Seating.{ended_stays}
 
 -- what a turn of this pass finds
 pub record Finds (lock : TableLock KeptCore) (who : Who) (before : Pass) (kept : KeptCore) : Type 0 where
   pub plan_is : kept.core.value.plan ≡ lock_plan lock
-  pub base_is : base_of kept.core.value ≡ empty
+  pub base_is : base_of kept.core.value ≡ lock_base lock
   pub later : IsLater (pass_of (lock_plan lock) who) (past_seen before) kept.core.value.past
   pub opens : IsOpen kept.core.value.plan (base_of kept.core.value) kept.core.value.past who
 
@@ -45,15 +45,15 @@ module _ (lock : TableLock KeptCore) (who : Who) (before : Pass) (running : IsRu
       → kept_fixed kept ≡ kept_fixed (lock_first lock) → Finds lock who before kept
   finds pass kept seen same at extends own fixed =
       let one = one_fixed kept.core.value.plan (lock_plan lock) kept.core.value.checkpoint (lock_first lock).core.value.checkpoint fixed in
-      let base_is : base_of kept.core.value ≡ empty = ap columns.kept_base one.1 ∙ running.start in
+      let base_is : base_of kept.core.value ≡ lock_base lock = ap columns.kept_base one.1 in
       let past_is : decoded seen ≡ kept.core.value.past = sym (ap decoded at) ∙ past_again kept.core.value.past in
       let went : IsLater (pass_number pass) (past_seen pass) (decoded seen) = later_of (pass_number pass) (pass_seen pass) seen extends own in
       let here : IsLater (pass_number before) (past_seen before) (decoded seen) = subst (λ (p : Pass). IsLater (pass_number p) (past_seen p) (decoded seen)) same went in
       let numbered : IsLater (pass_of (lock_plan lock) who) (past_seen before) (decoded seen) = subst (λ (n : ℕ). IsLater n (past_seen before) (decoded seen)) running.number_is here in
       let later : IsLater (pass_of (lock_plan lock) who) (past_seen before) kept.core.value.past = subst (λ (rows : List Row). IsLater (pass_of (lock_plan lock) who) (past_seen before) rows) past_is numbered in
-      let opens : IsOpen (lock_plan lock) empty kept.core.value.past who = record {
+      let opens : IsOpen (lock_plan lock) (lock_base lock) kept.core.value.past who = record {
         known = running.known;
-        running = ended_stays empty (pass_of (lock_plan lock) who) (past_seen before) kept.core.value.past later ∙ running.state;
+        running = ended_stays (lock_base lock) (pass_of (lock_plan lock) who) (past_seen before) kept.core.value.past later ∙ running.state;
       } in
       record {
         plan_is = one.0;
@@ -61,14 +61,6 @@ module _ (lock : TableLock KeptCore) (who : Who) (before : Pass) (running : IsRu
         later = later;
         opens = subst (λ (t : Plan × Base). IsOpen t.0 t.1 kept.core.value.past who) (λ i. (sym one.0 i, sym base_is i)) opens;
       }
-
-  by_maker : (plan : Plan) (base : Base) (past : List Row) (event : Event) → (row_of plan base past event).entry.by ≡ pass_of plan (maker_of event)
-  by_maker plan base past (Frame port stamp octets) = refl
-  by_maker plan base past (Long port stamp len) = refl
-  by_maker plan base past (Command stamp line) = refl
-  by_maker plan base past (Tick stamp) = refl
-  by_maker plan base past (Drain port count) = refl
-  by_maker plan base past (End who how) = refl
 
   -- the pass may leave: it made one entry of its own at most
   pub may_leave : (pass : Pass) (number : ℕ) (kept new : KeptCore) (seen : EntryList) → pass ≡ before → number ≡ pass_number pass
@@ -95,7 +87,7 @@ module _ (lock : TableLock KeptCore) (who : Who) (before : Pass) (running : IsRu
       found = kept.core.value.past;
       later = found.later;
       legal = subst (λ (t : Plan × Base). IsLegal t.0 t.1 kept.core.value.past) (λ i. (found.plan_is i, found.base_is i)) legal;
-      did = subst (λ (rows : List Row). Does (lock_plan lock) empty kept.core.value.past rows) (sym now_is)
+      did = subst (λ (rows : List Row). Does (lock_plan lock) (lock_base lock) kept.core.value.past rows) (sym now_is)
           (subst (λ (t : Plan × Base). Does t.0 t.1 kept.core.value.past new.core.value.past) (λ i. (found.plan_is i, found.base_is i)) did);
     }
 
@@ -104,10 +96,9 @@ module _ (lock : TableLock KeptCore) (who : Who) (before : Pass) (running : IsRu
         → has_ended (base_of kept.core.value) (pass_of kept.core.value.plan who) new.core.value.past ≡ ended → IsAt lock who ended after
     stands pass number ended same numbered of after_number placed state = record {
       of = of;
-      start = running.start;
       known = running.known;
       number_is = after_number ∙ numbered ∙ ap pass_number same ∙ running.number_is;
       sleeps = placed ∙ ap pass_sleeps_at same ∙ running.sleeps;
-      state = ap (has_ended empty (pass_of (lock_plan lock) who)) now_is
+      state = ap (has_ended (lock_base lock) (pass_of (lock_plan lock) who)) now_is
           ∙ (λ i. has_ended (sym found.base_is i) (pass_of (sym found.plan_is i) who) new.core.value.past) ∙ state;
     }

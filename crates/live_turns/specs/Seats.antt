@@ -7,7 +7,7 @@ use Rattle.savi_kinds.specs.Ports.{number_of}
 use Rattle.table_lock.specs.declared.lock.TableLock.{TableLock}
 use Rattle.table_lock.specs.declared.pass.Pass.{Pass}
 use Rattle.table_lock.specs.Passes.{IsPassOf, lock_first, pass_number, pass_sleeps_at}
-use Rattle.checkpoint.specs.Bases.{Base, empty}
+use Rattle.checkpoint.specs.Bases.{Base}
 use Rattle.savi_history.specs.Passes.{has_ended, has_pass, pass_of}
 use Rattle.savi_core.specs.Machines.{base_of}
 use Rattle.core_keep.specs.declared.keep.KeptCore.{KeptCore}
@@ -33,15 +33,14 @@ sleeps_at Control = None
 sleeps_at Ticker = None
 sleeps_at (Egress port) = Some (number_of port)
 
--- This pass of the lock is that of `who`, which the plan has, and sleeps where that sleeps; in what the pass has seen, of a
--- history that began with nothing, it has ended, or not.
+-- This pass of the lock is that of `who`, which the plan has, and sleeps where that sleeps; in what the pass has seen it has
+-- ended, or not.
 pub record IsAt (lock : TableLock KeptCore) (who : Who) (ended : Bool) (pass : Pass) : Type 0 where
   pub of : IsPassOf kept_fixed lock pass
-  pub start : lock_base lock ≡ empty
   pub known : has_pass (lock_plan lock) who ≡ true
   pub number_is : pass_number pass ≡ pass_of (lock_plan lock) who
   pub sleeps : pass_sleeps_at pass ≡ sleeps_at who
-  pub state : has_ended empty (pass_of (lock_plan lock) who) (past_seen pass) ≡ ended
+  pub state : has_ended (lock_base lock) (pass_of (lock_plan lock) who) (past_seen pass) ≡ ended
 
 abbrev pub IsRunning : TableLock KeptCore → Who → Pass → Type 0
 IsRunning lock who pass = IsAt lock who false pass
@@ -49,11 +48,15 @@ IsRunning lock who pass = IsAt lock who false pass
 abbrev pub IsEndedPass : TableLock KeptCore → Who → Pass → Type 0
 IsEndedPass lock who pass = IsAt lock who true pass
 
--- the pass of `who` at the start of the session: it has seen nothing, and has no place to sleep at yet
-pub record IsNewPass (lock : TableLock KeptCore) (who : Who) (pass : Pass) : Type 0 where
+-- the pass of `who` at the start of a segment: it has seen nothing of it, and has no place to sleep at yet
+pub record IsDealtTo (lock : TableLock KeptCore) (who : Who) (pass : Pass) : Type 0 where
   pub of : IsPassOf kept_fixed lock pass
-  pub start : lock_base lock ≡ empty
   pub known : has_pass (lock_plan lock) who ≡ true
   pub number_is : pass_number pass ≡ pass_of (lock_plan lock) who
   pub nothing : past_seen pass ≡ []
   pub placeless : pass_sleeps_at pass ≡ None
+
+-- the same, and it has not ended in what the segment goes on from
+pub record IsNewPass (lock : TableLock KeptCore) (who : Who) (pass : Pass) : Type 0 where
+  pub dealt : IsDealtTo lock who pass
+  pub open_in : has_ended (lock_base lock) (pass_of (lock_plan lock) who) [] ≡ false

@@ -50,6 +50,18 @@ DidEnd who how plan base found now = now ≡ with_event plan base found (End who
 abbrev pub DidPause : Who → Plan → Base → List Row → List Row → Type 0
 DidPause who plan base found now = (has_room plan found ≡ false) × DidEnd who hows.Paused plan base found now
 
+-- the pass is that of an input: of a port, or of control
+abbrev pub IsInputPass : Who → Type 0
+IsInputPass (Ingress port) = Unit {0}
+IsInputPass Control = Unit {0}
+IsInputPass Ticker = ⊥
+IsInputPass (Egress port) = ⊥
+
+-- A pass that had nothing to enter was paused for want of room; or there was room, and nothing was done.
+abbrev pub DidLook : Who → Bool → Plan → Base → List Row → List Row → Type 0
+DidLook who true plan base found now = DidPause who plan base found now
+DidLook who false plan base found now = (has_room plan found ≡ true) × (now ≡ found)
+
 -- An input was entered; or there was no room for it, and its pass is paused.
 abbrev pub DidInput : Event → Bool → Plan → Base → List Row → List Row → Type 0
 DidInput event true plan base found now = (has_room plan found ≡ true) × (now ≡ with_event plan base found event)
@@ -61,14 +73,16 @@ DidLine stamp line true reply plan base found now =
     DidInput (Command stamp line) true plan base found now × (reply ≡ shown plan base now)
 DidLine stamp line false reply plan base found now = DidInput (Command stamp line) false plan base found now
 
--- The ticker made a tick; or it passed one over, and goes on exactly while an input may come. It is paused where an input
--- is.
+-- The ticker made a tick; or it passed one over, and goes on exactly while an input may come, and tells where that is for
+-- want of room. It is paused where an input is.
 abbrev pub DidTick : ℕ → TickTurn → Plan → Base → List Row → List Row → Type 0
 DidTick stamp ticks.Made plan base found now =
     (has_room plan found ≡ true) × HasChangedBy plan base found (moment_at base found stamp)
     × (now ≡ with_event plan base found (Tick stamp))
 DidTick stamp ticks.Idle plan base found now =
     IsPassedOver plan base found stamp × (¬ InputsEnded plan base found) × (now ≡ found)
+DidTick stamp ticks.Full plan base found now =
+    (has_room plan found ≡ false) × (¬ InputsEnded plan base found) × (now ≡ found)
 DidTick stamp ticks.Ended plan base found now =
     IsPassedOver plan base found stamp × InputsEnded plan base found × DidEnd Ticker (closing found) plan base found now
 
@@ -76,6 +90,7 @@ DidTick stamp ticks.Ended plan base found now =
 abbrev pub ends_ticker : TickTurn → Bool
 ends_ticker ticks.Made = false
 ends_ticker ticks.Idle = false
+ends_ticker ticks.Full = false
 ends_ticker ticks.Ended = true
 
 -- whatever may be queued: an input hasn't ended, or the ticker

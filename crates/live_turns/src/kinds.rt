@@ -5,8 +5,10 @@
 pub enum TickTurn {
     /// A tick was entered.
     Made,
-    /// Nothing was due, or there was no room for a tick, and an input may still come.
+    /// Nothing was due, and an input may still come.
     Idle,
+    /// There is no room for anything more, and an input may still come: it will be paused.
+    Full,
     /// Nothing was due, or there was no room for a tick, and no input may come any more: the ticker has ended.
     Ended,
 }

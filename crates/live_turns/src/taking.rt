@@ -5,20 +5,19 @@
 ghost use Rattle.std.specs.Prelude.{◌≤◌, List, length, not};
 ghost use Rattle.savi_kinds.specs.declared.entry.Who.TheVariants.{Control, Egress, Ticker};
 ghost use Rattle.hist_store.specs.Rows.{Row};
-ghost use Rattle.checkpoint.specs.Bases.{empty};
 ghost use Rattle.savi_history.specs.Legal.{MayEnd};
 ghost use Rattle.savi_core.specs.Steps.{IsClassed, event_of};
-ghost use Rattle.live_turns.specs.Seats.{IsEndedPass, IsAt, IsRunning, lock_plan};
-ghost use Rattle.live_turns.specs.TurnKinds.{DidDrain, DidEnd, DidInput, DidLine, DidTick};
-ghost use Rattle.live_turns.specs.TurnKinds.{IsFrame, ends_egress, ends_ticker, maker_of};
+ghost use Rattle.live_turns.specs.Seats.{IsEndedPass, IsAt, IsRunning, lock_base, lock_plan};
+ghost use Rattle.live_turns.specs.TurnKinds.{DidDrain, DidEnd, DidInput, DidLine, DidLook, DidTick};
+ghost use Rattle.live_turns.specs.TurnKinds.{IsFrame, IsInputPass, ends_egress, ends_ticker, maker_of};
 ghost use Rattle.live_turns.specs.Turned.{Turned};
 ghost use Rattle.live_turns.specs.Wakes.{Wakes};
 
 use crate::gate::Gate;
 use crate::kinds::{DrainTurn, TickTurn};
 use crate::turns::Turns;
-use crate::under_lock::{drain, end, enter_frame, enter_line, tick};
-use crate::waking::{wake_after, wake_all, wake_outputs};
+use crate::under_lock::{drain, end_pass, enter_frame, enter_line, pause_if_full, tick};
+use crate::waking::{wake_after, wake_all, wake_all_if, wake_outputs};
 use arrayvec::ArrayVec;
 use core_keep::KeptCore;
 use savi_core::{Batch, Event, Reply};
@@ -88,17 +87,40 @@ pub fn end_turn<R: Wait, G: Gate>(
     how: How,
 ) -> Turns
     requires running { IsRunning lock.now who turns.pass }
-    requires may { (past : List Row) → MayEnd (lock_plan lock.now) empty past who how }
+    requires may { (past : List Row) → MayEnd (lock_plan lock.now) (lock_base lock.now) past who how }
     ensures turned { Turned lock.now who turns.pass result.pass (DidEnd who how) }
     ensures wakes { Turned lock.now who turns.pass result.pass (Wakes (DidEnd who how) result.woken.items) }
     ensures ended { IsEndedPass lock.now who result.pass }
 {
     let turn = turns.announce(rt, gate);
     let mut held = lock.enter(rt, turns.into_pass());
-    end(held.value(), who, how);
+    end_pass(held.value(), who, how);
     let pass = held.leave();
     let woken = wake_all(lock, &pass);
     Turns::after(pass, turn, woken)
+}
+
+/// One turn of an input that has nothing to enter: its pass is paused where there is no room for another input; else nothing
+/// is done. The answer is the pass again, and whether it was paused. O(1).
+pub fn pause_turn<R: Wait, G: Gate>(
+    rt: &R,
+    lock: &TableLock<KeptCore>,
+    gate: &G,
+    turns: Turns,
+    who: Who,
+) -> (Turns, bool)
+    requires running { IsRunning lock.now who turns.pass }
+    requires input { IsInputPass who }
+    ensures turned { Turned lock.now who turns.pass result.0.pass (DidLook who result.1) }
+    ensures wakes { Turned lock.now who turns.pass result.0.pass (Wakes (DidLook who result.1) result.0.woken.items) }
+    ensures state { IsAt lock.now who result.1 result.0.pass }
+{
+    let turn = turns.announce(rt, gate);
+    let mut held = lock.enter(rt, turns.into_pass());
+    let paused = pause_if_full(held.value(), who);
+    let pass = held.leave();
+    let woken = wake_all_if(lock, &pass, paused);
+    (Turns::after(pass, turn, woken), paused)
 }
 
 /// One turn of the ticker, whose clock reads `stamp` (ms): makes a tick where an address has another state by then, and

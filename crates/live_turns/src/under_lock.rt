@@ -1,15 +1,19 @@
-//! What is done to the core in one turn at the lock: it makes at most one entry.
+//! The moves of a session: what is done to the core in one turn at the lock. Each makes at most one entry. A thread that
+//! has the core alone makes the same moves without a lock.
 
 ghost use Rattle.std.specs.Prelude.{◌≡◌, ◌+◌, ◌≤◌, true, length, MatchBool};
 ghost use Rattle.savi_kinds.specs.declared.entry.Who.TheVariants.{Control, Egress, Ticker};
 ghost use Rattle.savi_history.specs.Events as events;
 ghost use Rattle.savi_history.specs.Legal.{InputsEnded, IsLegal, IsOpen, MayEnd};
+ghost use Rattle.savi_history.specs.Limits.{has_room};
 ghost use Rattle.savi_history.specs.Passes.{AllEnded, control_pass, has_pass, ticker_pass};
 ghost use Rattle.savi_history.specs.Replay.{closing};
 ghost use Rattle.savi_core.specs.Machines.{base_of};
 ghost use Rattle.savi_core.specs.Steps.{IsClassed, event_of};
+ghost use Rattle.live_turns.specs.declared.kinds.TickTurn.TheVariants.{Full, Idle};
 ghost use Rattle.live_turns.specs.Wakes.{HasGrownPorts, MayHaveQueued};
-ghost use Rattle.live_turns.specs.TurnKinds.{DidDrain, DidEnd, DidInput, DidLine, DidTick, IsFrame, MayQueue, maker_of};
+ghost use Rattle.live_turns.specs.TurnKinds.{DidDrain, DidEnd, DidInput, DidLine, DidLook, DidTick};
+ghost use Rattle.live_turns.specs.TurnKinds.{IsFrame, IsInputPass, MayQueue, maker_of};
 
 use crate::kinds::{DrainTurn, TickTurn};
 use core_keep::KeptCore;
@@ -17,8 +21,8 @@ use savi_core::{Batch, Core, Event, Reply, Stepped};
 use savi_kinds::{DEPTH_MOST, Entry, How, Port, PortSet, Who};
 
 /// Enters a frame, or pauses its pass where there is no room for it. The answer is whether it was entered, and ports, among
-/// them each whose queue has grown.
-pub(crate) fn enter_frame(kept: &mut KeptCore, event: Event<'_>) -> (bool, PortSet)
+/// them each whose queue has grown. It costs what `Core::step` costs.
+pub fn enter_frame(kept: &mut KeptCore, event: Event<'_>) -> (bool, PortSet)
     requires open { IsOpen kept.old.core.value.plan (base_of kept.old.core.value) kept.old.core.value.past (maker_of (event_of event)) }
     requires frame { IsFrame (event_of event) }
     requires class { IsClassed event }
@@ -33,7 +37,7 @@ pub(crate) fn enter_frame(kept: &mut KeptCore, event: Event<'_>) -> (bool, PortS
         Stepped::Done(entry) => (true, queued_to(entry)),
         Stepped::Nothing => (true, PortSet::empty()),
         Stepped::Full { len: _ } => {
-            end(kept, maker(event), How::Paused);
+            end_pass(kept, maker(event), How::Paused);
             (false, PortSet(u16::MAX))
         }
     }
@@ -73,8 +77,8 @@ fn maker(event: Event<'_>) -> Who
 }
 
 /// Enters a line of control and puts the reply to it into `reply`, or pauses control where there is no room for the line.
-/// The answer is whether it was entered.
-pub(crate) fn enter_line(kept: &mut KeptCore, stamp: u64, line: &[u8], reply: &mut Reply) -> bool
+/// The answer is whether it was entered. It costs what `Core::step` and `Core::reply` cost.
+pub fn enter_line(kept: &mut KeptCore, stamp: u64, line: &[u8], reply: &mut Reply) -> bool
     requires open { IsOpen kept.old.core.value.plan (base_of kept.old.core.value) kept.old.core.value.past Control }
     requires short { length line.now ≤ 120 }
     ensures plan { kept.new.core.value.plan ≡ kept.old.core.value.plan }
@@ -89,14 +93,32 @@ pub(crate) fn enter_line(kept: &mut KeptCore, stamp: u64, line: &[u8], reply: &m
             true
         }
         Stepped::Full { len: _ } => {
-            end(kept, Who::Control, How::Paused);
+            end_pass(kept, Who::Control, How::Paused);
             false
         }
     }
 }
 
-/// Ends a pass.
-pub(crate) fn end(kept: &mut KeptCore, who: Who, how: How)
+/// Pauses the pass of an input where there is no room for another one. The answer is whether it was paused; else nothing has
+/// changed. O(1).
+pub fn pause_if_full(kept: &mut KeptCore, who: Who) -> bool
+    requires open { IsOpen kept.old.core.value.plan (base_of kept.old.core.value) kept.old.core.value.past who }
+    requires input { IsInputPass who }
+    ensures plan { kept.new.core.value.plan ≡ kept.old.core.value.plan }
+    ensures checkpoint { kept.new.core.value.checkpoint ≡ kept.old.core.value.checkpoint }
+    ensures legal { IsLegal kept.old.core.value.plan (base_of kept.old.core.value) kept.old.core.value.past }
+    ensures did { DidLook who result kept.old.core.value.plan (base_of kept.old.core.value) kept.old.core.value.past kept.new.core.value.past }
+{
+    let _len = kept.core.len();
+    if !kept.core.full() {
+        return false;
+    }
+    end_pass(kept, who, How::Paused);
+    true
+}
+
+/// Ends a pass. O(1) beside what waits at a port whose egress ends, which is given up.
+pub fn end_pass(kept: &mut KeptCore, who: Who, how: How)
     requires open { IsOpen kept.old.core.value.plan (base_of kept.old.core.value) kept.old.core.value.past who }
     requires may { MayEnd kept.old.core.value.plan (base_of kept.old.core.value) kept.old.core.value.past who how }
     ensures plan { kept.new.core.value.plan ≡ kept.old.core.value.plan }
@@ -108,9 +130,9 @@ pub(crate) fn end(kept: &mut KeptCore, who: Who, how: How)
     let _entry = kept.core.step(Event::End { who, how });
 }
 
-/// Lets time pass to this stamp. Where nothing was due, or there is no room for a tick, and no input may come any more, the
-/// ticker ends, and it is paused where an input is.
-pub(crate) fn tick(kept: &mut KeptCore, stamp: u64) -> TickTurn
+/// Lets time pass to this stamp (ms). Where nothing was due, or there is no room for a tick, and no input may come any
+/// more, the ticker ends, and it is paused where an input is. It costs what `Core::step` costs.
+pub fn tick(kept: &mut KeptCore, stamp: u64) -> TickTurn
     requires open { IsOpen kept.old.core.value.plan (base_of kept.old.core.value) kept.old.core.value.past Ticker }
     ensures plan { kept.new.core.value.plan ≡ kept.old.core.value.plan }
     ensures checkpoint { kept.new.core.value.checkpoint ≡ kept.old.core.value.checkpoint }
@@ -122,18 +144,18 @@ pub(crate) fn tick(kept: &mut KeptCore, stamp: u64) -> TickTurn
         Stepped::Done(_) => TickTurn::Made,
         Stepped::Nothing | Stepped::Full { len: _ } => {
             if has_input(&kept.core) {
-                return TickTurn::Idle;
+                return passed_over(&kept.core);
             }
             let how = last_reason(&kept.core);
-            end(kept, Who::Ticker, how);
+            end_pass(kept, Who::Ticker, how);
             TickTurn::Ended
         }
     }
 }
 
 /// Takes all that waits at a port into the batch, in place of what it held. It ends the egress of the port where nothing
-/// waits and nothing may be queued any more; it is paused where an input is.
-pub(crate) fn drain(kept: &mut KeptCore, port: Port, batch: &mut Batch) -> DrainTurn
+/// waits and nothing may be queued any more; it is paused where an input is. It costs what `Core::drain` costs.
+pub fn drain(kept: &mut KeptCore, port: Port, batch: &mut Batch) -> DrainTurn
     requires open { IsOpen kept.old.core.value.plan (base_of kept.old.core.value) kept.old.core.value.past (Egress port) }
     ensures plan { kept.new.core.value.plan ≡ kept.old.core.value.plan }
     ensures checkpoint { kept.new.core.value.checkpoint ≡ kept.old.core.value.checkpoint }
@@ -149,9 +171,20 @@ pub(crate) fn drain(kept: &mut KeptCore, port: Port, batch: &mut Batch) -> Drain
                 return DrainTurn::Idle;
             }
             let how = last_reason(&kept.core);
-            end(kept, Who::Egress(port), how);
+            end_pass(kept, Who::Egress(port), how);
             DrainTurn::Ended
         }
+    }
+}
+
+// What came of a tick that was passed over while an input may still come.
+fn passed_over(core: &Core) -> TickTurn
+    ensures { MatchBool (has_room core.now.plan core.now.past) (result ≡ Idle) (result ≡ Full) }
+{
+    if core.full() {
+        TickTurn::Full
+    } else {
+        TickTurn::Idle
     }
 }
 

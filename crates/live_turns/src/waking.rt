@@ -80,7 +80,7 @@ fn wake_next(lock: &TableLock<KeptCore>, pass: &Pass, ports: PortSet, number: u8
     }
 }
 
-// Behind a turn of the ticker wakes the egress of every port, and none where it passed a tick over. The answer is the wakes.
+// Behind a turn of the ticker wakes the egress of every port, and none where nothing was due. The answer is the wakes.
 pub(crate) fn wake_after(lock: &TableLock<KeptCore>, pass: &Pass, came: TickTurn) -> Wakes
     requires { IsPassOf kept_fixed lock.now pass.now }
     ensures behind { AreBehind (past_seen pass.now) result.items }
@@ -88,7 +88,19 @@ pub(crate) fn wake_after(lock: &TableLock<KeptCore>, pass: &Pass, came: TickTurn
 {
     match came {
         TickTurn::Idle => ArrayVec::new(),
-        TickTurn::Made | TickTurn::Ended => wake_all(lock, pass),
+        TickTurn::Made | TickTurn::Full | TickTurn::Ended => wake_all(lock, pass),
+    }
+}
+
+// Where that is due wakes the egress of every port, and else none. The answer is the wakes.
+pub(crate) fn wake_all_if(lock: &TableLock<KeptCore>, pass: &Pass, is_due: bool) -> Wakes
+    requires { IsPassOf kept_fixed lock.now pass.now }
+    ensures { AreBehind (past_seen pass.now) result.items }
+{
+    if is_due {
+        wake_all(lock, pass)
+    } else {
+        ArrayVec::new()
     }
 }
 

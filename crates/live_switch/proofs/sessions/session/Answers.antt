@@ -1,35 +1,258 @@
-use Rattle.std.proofs.Common.{◌≡◌, length, ap, sym, subst, ◌∙◌, arith}
-use Rattle.savi_core.specs.Machines.{Machine, base_of}
-use Rattle.table_lock.specs.Passes.{lock_seats}
-use Rattle.live_switch.proofs.Closing.{IsClosed, all_of, base_is, lives, plan_is}
+use Rattle.std.proofs.Common.{◌∙◌, arith}
+use Rattle.live_switch.specs.Beginnings.{FitsRoom}
+use Rattle.live_switch.proofs.Beginning.{can_start, unfilled}
+use Rattle.live_switch.proofs.Living.{LeaveRows, line_matched, matched, plan_closed, reads_len, room_left, served, services_left}
 use Rattle.live_switch.proofs.sessions.session.Goals as goal
 
-pub close-requires : goal.close-requires
-close-requires g c =
-    let size : length c.run_all-ports.result.passes.items ≡ lock_seats c.in-Ok-lock_of.lock =
-    omega (arith, c.run_all-ports.ensures.passes_len, c.run_all-ports.result.passes.ok.0, c.in-Ok-lock_of.passes.ok.0, c.in-Ok-lock_of.ensures.passes.size, c.in-Ok-lock_of.ensures.lock.1) in
-    all_of c.in-Ok-lock_of.lock c.run_all-ports.result.passes.items size c.run_all-ports.ensures.ended
+pub deal_ends-ports-requires : goal.deal_ends-ports-requires
+deal_ends-ports-requires g c =
+    let said = c.in-Ok.ensures in
+    record {
+      plan = c.args.plan;
+      size = c.requires.planned;
+      seats = said.seats;
+      there = said.there ∙ c.is_some.ensures;
+      line_seat = said.line_seat;
+      readers = said.readers;
+      services = said.services;
+      buffer = said.buffer;
+      first = said.first;
+    }
+
+pub run_readers-readers-requires-clause-unfilled : goal.run_readers-readers-requires-clause-unfilled
+run_readers-readers-requires-clause-unfilled g c κs inside =
+    let said = c.in-Ok.ensures in
+    let ready = c.args.ready in
+    let room = c.in-Ok.room in
+    let fits : FitsRoom ready room =
+    record {
+      plan = c.args.plan;
+      size = c.requires.planned;
+      seats = said.seats;
+      there = said.there ∙ c.is_some.ensures;
+      line_seat = said.line_seat;
+      readers = said.readers;
+      services = said.services;
+      buffer = said.buffer;
+      first = said.first;
+    } in
+    let begun = c.deal_ends-ports.result in
+    let has = c.deal_ends-ports.ensures in
+    unfilled ready room begun fits has
+
+pub run_readers-readers-requires-clause-start : goal.run_readers-readers-requires-clause-start
+run_readers-readers-requires-clause-start g c κs inside =
+    let said = c.in-Ok.ensures in
+    let ready = c.args.ready in
+    let room = c.in-Ok.room in
+    let fits : FitsRoom ready room =
+    record {
+      plan = c.args.plan;
+      size = c.requires.planned;
+      seats = said.seats;
+      there = said.there ∙ c.is_some.ensures;
+      line_seat = said.line_seat;
+      readers = said.readers;
+      services = said.services;
+      buffer = said.buffer;
+      first = said.first;
+    } in
+    let begun = c.deal_ends-ports.result in
+    let has = c.deal_ends-ports.ensures in
+    can_start ready room begun fits has c.requires.valid
+
+pub closed_by-requires-clause-size : goal.closed_by-requires-clause-size
+closed_by-requires-clause-size g c =
+    let said = c.in-Ok.ensures in
+    let ready = c.args.ready in
+    let room = c.in-Ok.room in
+    let fits : FitsRoom ready room =
+    record {
+      plan = c.args.plan;
+      size = c.requires.planned;
+      seats = said.seats;
+      there = said.there ∙ c.is_some.ensures;
+      line_seat = said.line_seat;
+      readers = said.readers;
+      services = said.services;
+      buffer = said.buffer;
+      first = said.first;
+    } in
+    let begun = c.deal_ends-ports.result in
+    let has = c.deal_ends-ports.ensures in
+    let left = g.S.Source.left in
+    let written = g.K.Sink.written in
+    let source_faults = g.S.Source.faults in
+    let sink_faults = g.K.Sink.faults in
+    let readings = g.C.Clock.readings in
+    let read = c.run_readers-readers.result.0 in
+    let run = c.run_readers-readers.result.1 in
+    let filled = c.run_readers-readers.ensures.filled in
+    let ran = c.run_readers-readers.ensures.run in
+    omega (arith, services_left left written source_faults sink_faults readings ready room begun fits has read run filled ran, reads_len left written source_faults sink_faults readings ready room begun fits has read run filled ran)
+
+pub closed_by-requires-clause-room : goal.closed_by-requires-clause-room
+closed_by-requires-clause-room g c =
+    let said = c.in-Ok.ensures in
+    let ready = c.args.ready in
+    let room = c.in-Ok.room in
+    let fits : FitsRoom ready room =
+    record {
+      plan = c.args.plan;
+      size = c.requires.planned;
+      seats = said.seats;
+      there = said.there ∙ c.is_some.ensures;
+      line_seat = said.line_seat;
+      readers = said.readers;
+      services = said.services;
+      buffer = said.buffer;
+      first = said.first;
+    } in
+    let begun = c.deal_ends-ports.result in
+    let has = c.deal_ends-ports.ensures in
+    let left = g.S.Source.left in
+    let written = g.K.Sink.written in
+    let source_faults = g.S.Source.faults in
+    let sink_faults = g.K.Sink.faults in
+    let readings = g.C.Clock.readings in
+    let read = c.run_readers-readers.result.0 in
+    let run = c.run_readers-readers.result.1 in
+    let filled = c.run_readers-readers.ensures.filled in
+    let ran = c.run_readers-readers.ensures.run in
+    room_left left written source_faults sink_faults readings ready room begun fits has read run filled ran
+
+pub closed_by-requires-clause-matched : goal.closed_by-requires-clause-matched
+closed_by-requires-clause-matched g c =
+    let said = c.in-Ok.ensures in
+    let ready = c.args.ready in
+    let room = c.in-Ok.room in
+    let fits : FitsRoom ready room =
+    record {
+      plan = c.args.plan;
+      size = c.requires.planned;
+      seats = said.seats;
+      there = said.there ∙ c.is_some.ensures;
+      line_seat = said.line_seat;
+      readers = said.readers;
+      services = said.services;
+      buffer = said.buffer;
+      first = said.first;
+    } in
+    let begun = c.deal_ends-ports.result in
+    let has = c.deal_ends-ports.ensures in
+    let left = g.S.Source.left in
+    let written = g.K.Sink.written in
+    let source_faults = g.S.Source.faults in
+    let sink_faults = g.K.Sink.faults in
+    let readings = g.C.Clock.readings in
+    let read = c.run_readers-readers.result.0 in
+    let run = c.run_readers-readers.result.1 in
+    let filled = c.run_readers-readers.ensures.filled in
+    let ran = c.run_readers-readers.ensures.run in
+    matched left written source_faults sink_faults readings ready room begun fits has read run filled ran
+
+pub closed_by-requires-clause-control : goal.closed_by-requires-clause-control
+closed_by-requires-clause-control g c =
+    let said = c.in-Ok.ensures in
+    let ready = c.args.ready in
+    let room = c.in-Ok.room in
+    let fits : FitsRoom ready room =
+    record {
+      plan = c.args.plan;
+      size = c.requires.planned;
+      seats = said.seats;
+      there = said.there ∙ c.is_some.ensures;
+      line_seat = said.line_seat;
+      readers = said.readers;
+      services = said.services;
+      buffer = said.buffer;
+      first = said.first;
+    } in
+    let begun = c.deal_ends-ports.result in
+    let has = c.deal_ends-ports.ensures in
+    let left = g.S.Source.left in
+    let written = g.K.Sink.written in
+    let source_faults = g.S.Source.faults in
+    let sink_faults = g.K.Sink.faults in
+    let readings = g.C.Clock.readings in
+    let read = c.run_readers-readers.result.0 in
+    let run = c.run_readers-readers.result.1 in
+    let filled = c.run_readers-readers.ensures.filled in
+    let ran = c.run_readers-readers.ensures.run in
+    line_matched left written source_faults sink_faults readings ready room begun fits has read run filled ran
 
 pub returns-clause-plan : goal.returns-clause-plan
 returns-clause-plan g c =
-    let closed : IsClosed c.in-Ok-lock_of.lock c.run_all-ports.result.passes.items c.close.result.core.value =
-    record { entries = c.close.ensures.entries; begins = c.close.ensures.begins; numbers = c.close.ensures.numbers; fixed = c.close.ensures.fixed } in
-    ap (λ (m : Machine). m.plan) c.into_core-core.ensures
-    ∙ plan_is g.S.Source.left g.K.Sink.written g.S.Source.faults g.K.Sink.faults g.C.Clock.readings c.in-Ok-lock_of.lock c.args.plan c.in-Ok-lock_of.ensures.lock.0 c.in-Ok-lock_of.ensures.lock.1 c.run_all-ports.result.passes.items c.close.result.core.value closed
+    let said = c.in-Ok.ensures in
+    let ready = c.args.ready in
+    let room = c.in-Ok.room in
+    let fits : FitsRoom ready room =
+    record {
+      plan = c.args.plan;
+      size = c.requires.planned;
+      seats = said.seats;
+      there = said.there ∙ c.is_some.ensures;
+      line_seat = said.line_seat;
+      readers = said.readers;
+      services = said.services;
+      buffer = said.buffer;
+      first = said.first;
+    } in
+    let begun = c.deal_ends-ports.result in
+    let has = c.deal_ends-ports.ensures in
+    let left = g.S.Source.left in
+    let written = g.K.Sink.written in
+    let source_faults = g.S.Source.faults in
+    let sink_faults = g.K.Sink.faults in
+    let readings = g.C.Clock.readings in
+    let read = c.run_readers-readers.result.0 in
+    let run = c.run_readers-readers.result.1 in
+    let filled = c.run_readers-readers.ensures.filled in
+    let ran = c.run_readers-readers.ensures.run in
+    let law : LeaveRows left written source_faults sink_faults readings =
+    record {
+      ingress = c.whole_sessions_leave_rows.ensures.ingress;
+      egress = c.whole_sessions_leave_rows.ensures.egress;
+      control = c.whole_sessions_leave_rows.ensures.control;
+      none = c.whole_sessions_leave_rows.ensures.none;
+      ticker = c.whole_sessions_leave_rows.ensures.ticker;
+    } in
+    plan_closed left written source_faults sink_faults readings ready room begun fits has read run filled ran law c.closed_by.result c.closed_by.ensures
 
-pub returns-clause-base : goal.returns-clause-base
-returns-clause-base g c =
-    let closed : IsClosed c.in-Ok-lock_of.lock c.run_all-ports.result.passes.items c.close.result.core.value =
-    record { entries = c.close.ensures.entries; begins = c.close.ensures.begins; numbers = c.close.ensures.numbers; fixed = c.close.ensures.fixed } in
-    ap (λ (m : Machine). base_of m) c.into_core-core.ensures
-    ∙ base_is g.S.Source.left g.K.Sink.written g.S.Source.faults g.K.Sink.faults g.C.Clock.readings c.in-Ok-lock_of.lock c.args.plan c.in-Ok-lock_of.ensures.lock.0 c.in-Ok-lock_of.ensures.lock.1 c.run_all-ports.result.passes.items c.close.result.core.value closed c.in-Ok-lock_of.ensures.base
-
-pub returns-clause-live : goal.returns-clause-live
-returns-clause-live g c =
-    let closed : IsClosed c.in-Ok-lock_of.lock c.run_all-ports.result.passes.items c.close.result.core.value =
-    record { entries = c.close.ensures.entries; begins = c.close.ensures.begins; numbers = c.close.ensures.numbers; fixed = c.close.ensures.fixed } in
-    let closed_core : IsClosed c.in-Ok-lock_of.lock c.run_all-ports.result.passes.items c.into_core-core.result =
-    subst (IsClosed c.in-Ok-lock_of.lock c.run_all-ports.result.passes.items) (sym c.into_core-core.ensures) closed in
-    lives g.S.Source.left g.K.Sink.written g.S.Source.faults g.K.Sink.faults g.C.Clock.readings c.in-Ok-lock_of.lock c.args.plan c.in-Ok-lock_of.ensures.lock.0 c.in-Ok-lock_of.ensures.lock.1 c.run_all-ports.result.passes.items c.into_core-core.result closed_core
-    c.args.ready.ports.items c.run_all-ports.result.ports.items c.args.ready.control c.run_all-ports.result.control c.args.ready.ticker c.run_all-ports.result.ticker
-    (omega (arith, c.requires.planned, c.args.ready.ports.ok.0)) c.in-Ok-lock_of.ensures.base c.len-entries.ensures.legal c.run_all-ports.ensures.ended c.run_all-ports.ensures.rows
+pub returns-clause-served : goal.returns-clause-served
+returns-clause-served g c =
+    let said = c.in-Ok.ensures in
+    let ready = c.args.ready in
+    let room = c.in-Ok.room in
+    let fits : FitsRoom ready room =
+    record {
+      plan = c.args.plan;
+      size = c.requires.planned;
+      seats = said.seats;
+      there = said.there ∙ c.is_some.ensures;
+      line_seat = said.line_seat;
+      readers = said.readers;
+      services = said.services;
+      buffer = said.buffer;
+      first = said.first;
+    } in
+    let begun = c.deal_ends-ports.result in
+    let has = c.deal_ends-ports.ensures in
+    let left = g.S.Source.left in
+    let written = g.K.Sink.written in
+    let source_faults = g.S.Source.faults in
+    let sink_faults = g.K.Sink.faults in
+    let readings = g.C.Clock.readings in
+    let read = c.run_readers-readers.result.0 in
+    let run = c.run_readers-readers.result.1 in
+    let filled = c.run_readers-readers.ensures.filled in
+    let ran = c.run_readers-readers.ensures.run in
+    let law : LeaveRows left written source_faults sink_faults readings =
+    record {
+      ingress = c.whole_sessions_leave_rows.ensures.ingress;
+      egress = c.whole_sessions_leave_rows.ensures.egress;
+      control = c.whole_sessions_leave_rows.ensures.control;
+      none = c.whole_sessions_leave_rows.ensures.none;
+      ticker = c.whole_sessions_leave_rows.ensures.ticker;
+    } in
+    served left written source_faults sink_faults readings ready room begun fits has read run filled ran law c.closed_by.result c.closed_by.ensures

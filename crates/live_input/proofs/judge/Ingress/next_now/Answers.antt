@@ -1,0 +1,12 @@
+use Rattle.parcel_ring.specs.Sides.{was_taken}
+use Rattle.live_input.proofs.Judging.{next_kept, next_taken}
+use Rattle.std.proofs.Common.{sym, ◌∙◌}
+use Rattle.live_input.proofs.judge.Ingress.next_now.Goals as goal
+
+pub returns-in-Some-clause-next : goal.returns-in-Some-clause-next
+returns-in-Some-clause-next g c = λ entered was.
+    next_kept entered (was_taken c.args.self.now.taker) c.args.self.now.kept c.in-Some.parcel (sym c.take.ensures.value ∙ c.in-Some.is) was
+
+pub returns-in-None-clause-next : goal.returns-in-None-clause-next
+returns-in-None-clause-next g c = λ entered was.
+    next_taken entered (was_taken c.args.self.now.taker) (was_taken c.try_take.new.self) c.args.self.now.kept c.try_take.result (sym c.take.ensures.value ∙ c.in-None.is) c.try_take.ensures.taken was

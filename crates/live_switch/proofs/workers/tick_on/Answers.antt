@@ -1,0 +1,25 @@
+use Rattle.std.proofs.Common.{◌≡◌, true, false, slice_index_or, sym, ◌∙◌, rules}
+use Rattle.savi_kinds.specs.declared.entry.Who.TheVariants as who
+use Rattle.table_lock.specs.Passes.{pass_number}
+use Rattle.live_turns.specs.Seats.{IsNewPass}
+use Rattle.live_switch.proofs.Overs.{is_new, number_within, was_over, ticker_idle}
+use Rattle.live_switch.proofs.workers.tick_on.Goals as goal
+
+pub run-requires-after_bounds : goal.run-requires-after_bounds
+run-requires-after_bounds g c κs inside =
+    let lock = c.args.lock.now in
+    let going = c.args.going.now in
+    let pass = c.args.pass in
+    let within = number_within lock who.Ticker pass c.requires.pass in
+    let goes : slice_index_or going (pass_number pass) true ≡ true = sym (c.is_open.ensures true) ∙ c.if-not-is_open.false in
+    let new : IsNewPass lock who.Ticker pass = is_new lock who.Ticker pass c.requires.pass going c.requires.«open» within goes in
+    search rules
+
+pub returns-then-not-is_open : goal.returns-then-not-is_open
+returns-then-not-is_open g c =
+    let lock = c.args.lock.now in
+    let going = c.args.going.now in
+    let pass = c.args.pass in
+    let within = number_within lock who.Ticker pass c.requires.pass in
+    let stays : slice_index_or going (pass_number pass) true ≡ false = sym (c.is_open.ensures true) ∙ c.if-not-is_open.true in
+    ticker_idle g.C.Clock.readings lock c.args.ticker pass c.requires.pass (was_over lock who.Ticker pass c.requires.pass going c.requires.«open» within stays)
