@@ -1,6 +1,6 @@
 -- The machine's clock.
 use Rattle.std.specs.Prelude.{ℕ}
-use Rattle.port_ends.specs.declared.machine_clock.ClockStart.{ClockStart}
+use Rattle.port_ends.specs.declared.clock_start.ClockStart.{ClockStart}
 use Rattle.port_ends.specs.declared.machine_clock.MachineClock.{MachineClock}
 
 -- the time of day from which the clocks of a run go on, in ms

@@ -6,13 +6,18 @@
 //! counted is proved.
 #![tactic(auto)]
 
+mod leftover;
 mod listening;
 mod meeting;
 mod opening;
 mod path_lock;
+mod patience;
+mod resting;
 mod socket_sink;
 mod socket_source;
 
 pub use opening::open_sockets;
+pub use patience::OutputsAwaited;
+pub use resting::Resting;
 pub use socket_sink::SocketSink;
 pub use socket_source::SocketSource;
