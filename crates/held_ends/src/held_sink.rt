@@ -17,6 +17,8 @@ pub enum Hold<'a> {
     /// The sink of control notes that it was given a reply, and that write returns only once the pass of port 1's input has
     /// come by for its third turn.
     Reply(&'a Marks),
+    /// The sink of the journal notes that it has taken the line that ends a segment.
+    Closed(&'a Marks),
 }
 
 /// A sink in memory.
@@ -59,9 +61,22 @@ impl<'a> Sink for HeldSink<'a> {
                 marks.replied.store(1, Ordering::SeqCst);
                 marks.wait_for(self.rt, &marks.turn_of_1, LAST_TURN);
             }
-            Hold::Nothing => {}
+            Hold::Nothing | Hold::Closed(_) => {}
         }
-        self.sink.write(piece)
+        let put = self.sink.write(piece);
+        match self.hold {
+            Hold::Closed(marks) if has_end(piece) => marks.closed.store(1, Ordering::SeqCst),
+            Hold::Nothing | Hold::Firsts(_) | Hold::Reply(_) | Hold::Closed(_) => {}
+        }
+        put
+    }
+}
+
+// Whether the last line of this piece ends a segment.
+fn has_end(piece: &[u8]) -> bool {
+    match str::from_utf8(piece) {
+        Ok(text) => text.contains("\nend "),
+        Err(_) => false,
     }
 }
 

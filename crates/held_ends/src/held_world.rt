@@ -23,8 +23,10 @@ pub const COMMANDS: &str = "commands";
 
 pub const REPLIES: &str = "replies";
 
-/// Room for what is written at a port, or of the journal.
+/// Room for what is written at a port or by control, and of the journal.
 const FILE_ROOM: usize = 8_192;
+
+const JOURNAL_ROOM: usize = 65_536;
 
 /// Room for what standard output and standard error are told.
 const TEXT_ROOM: usize = 256;
@@ -34,8 +36,10 @@ const TEXT_ROOM: usize = 256;
 pub enum Waits {
     /// They wait for one another, and port 3 brings nothing.
     ForOneAnother,
-    /// They wait for nothing, each port brings two frames, and each source notes that it has answered that nothing is left.
+    /// They wait for nothing, and each port brings two frames.
     ForNothing,
+    /// They wait for nothing, ports 1 and 2 bring five frames each, and the journal's sink notes that a segment has ended.
+    ForASegment,
 }
 
 /// The ends of a port, or of control.
@@ -77,7 +81,7 @@ impl<'a> HeldWorld<'a> {
         let err = MemSink::make(alloc, TEXT_ROOM, Vec::new(alloc))?;
         let waited = match waits {
             Waits::ForOneAnother => Some(marks),
-            Waits::ForNothing => None,
+            Waits::ForNothing | Waits::ForASegment => None,
         };
         Ok(HeldWorld {
             alloc,
@@ -112,6 +116,18 @@ impl<'a> HeldWorld<'a> {
         Ok(HeldSink::new(self.rt, sink, hold))
     }
 
+    // The sink of the journal.
+    fn journal_sink(&self) -> Result<HeldSink<'a>, AllocError>
+        ensures { IfOk result (λ k. ⟦<HeldSink<'a> as Sink>⟧.faults k ≡ 0) }
+    {
+        let hold = match self.waits {
+            Waits::ForASegment => Hold::Closed(self.marks),
+            Waits::ForOneAnother | Waits::ForNothing => Hold::Nothing,
+        };
+        let sink = MemSink::make(self.alloc, JOURNAL_ROOM, Vec::new(self.alloc))?;
+        Ok(HeldSink::new(self.rt, sink, hold))
+    }
+
     // The ends of a port.
     fn ends_of(&self, number: u8) -> Result<HeldEnds<'a>, AllocError>
         ensures source { IfOk result (λ ends. ⟦<HeldSource<'a> as Source>⟧.faults ends.source ≡ 0) }
@@ -119,11 +135,11 @@ impl<'a> HeldWorld<'a> {
     {
         let note = match (self.waits, number) {
             (Waits::ForOneAnother, 1) => Note::Reads(self.marks),
-            (Waits::ForOneAnother | Waits::ForNothing, _) => Note::Nothing,
+            (Waits::ForOneAnother | Waits::ForNothing | Waits::ForASegment, _) => Note::Nothing,
         };
         let hold = match (self.waits, number) {
             (Waits::ForOneAnother, 3) => Hold::Firsts(self.marks),
-            (Waits::ForOneAnother | Waits::ForNothing, _) => Hold::Nothing,
+            (Waits::ForOneAnother | Waits::ForNothing | Waits::ForASegment, _) => Hold::Nothing,
         };
         Ok(Ends {
             source: HeldSource::new(self.alloc, self.rt, self.records_of(number)?, note),
@@ -132,10 +148,26 @@ impl<'a> HeldWorld<'a> {
         })
     }
 
+    // Adds two frames of a port by turns, five in all.
+    fn add_five(
+        &self,
+        octets: &mut Vec<u8>,
+        first: &[u8],
+        second: &[u8],
+    ) -> Result<(), AllocError> {
+        for _ in 0..2 {
+            octets.extend_from_slice(first)?;
+            octets.extend_from_slice(second)?;
+        }
+        octets.extend_from_slice(first)
+    }
+
     // What a port brings.
     fn records_of(&self, number: u8) -> Result<Vec<u8>, AllocError> {
         let mut octets = Vec::new(self.alloc);
         match (self.waits, number) {
+            (Waits::ForASegment, 1) => self.add_five(&mut octets, &FIRST_OF_1, &SECOND_OF_1)?,
+            (Waits::ForASegment, 2) => self.add_five(&mut octets, &FIRST_OF_2, &SECOND_OF_2)?,
             (_, 1) => {
                 octets.extend_from_slice(&FIRST_OF_1)?;
                 octets.extend_from_slice(&SECOND_OF_1)?;
@@ -148,7 +180,7 @@ impl<'a> HeldWorld<'a> {
                 octets.extend_from_slice(&FIRST_OF_3)?;
                 octets.extend_from_slice(&SECOND_OF_3)?;
             }
-            (Waits::ForOneAnother, _) => {}
+            (Waits::ForOneAnother | Waits::ForASegment, _) => {}
         }
         Ok(octets)
     }
@@ -161,7 +193,7 @@ impl<'a> HeldWorld<'a> {
         let line = b"quit\n".to_vec(self.alloc)?;
         let hold = match self.waits {
             Waits::ForOneAnother => Hold::Reply(self.marks),
-            Waits::ForNothing => Hold::Nothing,
+            Waits::ForNothing | Waits::ForASegment => Hold::Nothing,
         };
         Ok(Ends {
             source: HeldSource::new(self.alloc, self.rt, line, Note::Nothing),
@@ -260,7 +292,7 @@ impl<'a> World for HeldWorld<'a> {
         let Ok(copy) = String::from_str(self.alloc, name) else {
             return Err(fault(&mut self.faults));
         };
-        match self.file_sink(Hold::Nothing) {
+        match self.journal_sink() {
             Ok(sink) => {
                 self.output.hand_out(Text::new(copy));
                 Ok(sink)

@@ -10,6 +10,9 @@
 //!
 //! In another world of the same ports (`Waits::ForNothing`) no end waits, and port 3 brings two frames too. So a gate can hold
 //! one input back until all that the others bring is entered.
+//!
+//! In a third one (`Waits::ForASegment`) ports 1 and 2 bring five frames each, and the journal's sink notes that it has taken
+//! the line that ends a segment (`Marks::closed`). So a gate can hold two inputs back behind that until each has come by.
 #![tactic(auto)]
 
 mod frames;

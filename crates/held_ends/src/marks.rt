@@ -30,6 +30,11 @@ pub struct Marks {
     pub replied: AtomicU64,
     /// 1 once the ticker's clock was told to wait.
     pub waited: AtomicU64,
+    /// 1 once the journal's sink has taken the line that ends the first segment.
+    pub closed: AtomicU64,
+    /// 1 each once the pass of the input of port 1, or of port 2, has come by for a turn behind that.
+    pub anew_of_1: AtomicU64,
+    pub anew_of_2: AtomicU64,
     // 1 once a wait has given up.
     given_up: AtomicU64,
 }
@@ -46,6 +51,9 @@ impl Marks {
             given: AtomicU64::new(0),
             replied: AtomicU64::new(0),
             waited: AtomicU64::new(0),
+            closed: AtomicU64::new(0),
+            anew_of_1: AtomicU64::new(0),
+            anew_of_2: AtomicU64::new(0),
             given_up: AtomicU64::new(0),
         }
     }

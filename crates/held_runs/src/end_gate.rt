@@ -32,4 +32,6 @@ impl<'a> Gate for EndGate<'a> {
                 .wait_for(self.rt, self.marks.turn_of(number), LAST_TURN);
         }
     }
+
+    fn inputs_wait(&self, _is_so: bool) {}
 }

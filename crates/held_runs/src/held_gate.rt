@@ -48,4 +48,6 @@ impl<'a> Gate for HeldGate<'a> {
             _ => {}
         }
     }
+
+    fn inputs_wait(&self, _is_so: bool) {}
 }

@@ -1,5 +1,7 @@
 //! Live sessions of the whole program whose workers must run side by side: one over ends that wait for one another
-//! (`held_ends`), and for each port one in which its input is held back until all that the other two bring is entered.
+//! (`held_ends`), for each port one in which its input is held back until all that the other two bring is entered, and one of
+//! many segments, behind the first of which two inputs wait for one another: so a session that has memory doesn't serve its
+//! segments by one thread.
 //!
 //! The input is the configuration, of three trusted ports over streams. What is printed is the same whatever the order in
 //! which the workers come to the switch: the status, what standard error was told, the frames that were written at each
@@ -8,9 +10,11 @@
 //! at that port, so that only their number is printed; at each other port its own frames come last. It was worked out by hand.
 #![tactic(auto)]
 
+mod anew_gate;
 mod end_gate;
 mod held_gate;
 
+use anew_gate::AnewGate;
 use end_gate::EndGate;
 use held_ends::{
     FIRST_OF_1, FIRST_OF_2, FIRST_OF_3, HeldWorld, Marks, PLAN, SECOND_OF_1, SECOND_OF_2,
@@ -47,6 +51,8 @@ fn main(rt: HostRuntime) -> anyhow::Result<()> {
         println!(rt; "the input of port {held} is held back")?;
         run_behind(&rt, rt, plan.clone()?, held, others)?;
     }
+    println!(rt; "two inputs wait for one another behind a segment")?;
+    run_in_segments(&rt, rt, plan.as_str())?;
     Ok(())
 }
 
@@ -92,6 +98,30 @@ fn run_behind<R: Print + Threads + Wait + Sync>(
     let status = run(rt, alloc, words_of(alloc)?.as_slice(), &mut world, &gate);
     println!(rt; "status {status}")?;
     print_left(rt, alloc, &world, Some(held))?;
+    print_whether_given_up(rt, &marks)
+}
+
+// Runs a session of many segments, behind the first of which two inputs wait for one another.
+fn run_in_segments<R: Print + Threads + Wait + Sync>(
+    rt: &R,
+    host: HostRuntime,
+    plan: &str,
+) -> anyhow::Result<()> {
+    let alloc = host.alloc();
+    let marks = Marks::new();
+    let gate = AnewGate {
+        rt: host,
+        marks: &marks,
+    };
+    let mut few = String::from_str(alloc, "entries = 4131\n")?;
+    few.push_str(plan)?;
+    let mut world = HeldWorld::make(alloc, host, few, &marks, Waits::ForASegment)?;
+    let status = run(rt, alloc, words_of(alloc)?.as_slice(), &mut world, &gate);
+    println!(rt; "status {status}")?;
+    print_left(rt, alloc, &world, Some(3))?;
+    let of_1 = marks.anew_of_1.load(Ordering::SeqCst);
+    let of_2 = marks.anew_of_2.load(Ordering::SeqCst);
+    println!(rt; "came by behind a segment: {of_1} and {of_2}")?;
     print_whether_given_up(rt, &marks)
 }
 

@@ -8,11 +8,12 @@
 
 ghost use Rattle.std.specs.Prelude.{◌≡◌};
 
+mod awaiting;
 mod opener;
 mod real_world;
 
+use awaiting::{Awaiting, AwaitingGate};
 use file_ends::{FileId, FileSink};
-use live_turns::NoGate;
 use real_world::RealWorld;
 use std::alloc::Global;
 use std::env;
@@ -25,12 +26,19 @@ fn main(rt: HostRuntime) -> ExitCode {
     let alloc = rt.alloc();
     let out = FileId::of_standard_output(&rt);
     let err = FileId::of_standard_error(&rt);
-    let status = match words_of(rt, alloc) {
-        Ok(words) => match RealWorld::make(rt, rt, alloc, out, err) {
-            Ok(mut world) => run(&rt, alloc, words.as_slice(), &mut world, &NoGate),
+    let status = match (words_of(rt, alloc), Awaiting::make(&rt, alloc)) {
+        (Ok(words), Ok(awaiting)) => match RealWorld::make(rt, rt, alloc, &awaiting, out, err) {
+            Ok(mut world) => {
+                let gate = AwaitingGate {
+                    host: rt,
+                    awaiting: &awaiting,
+                };
+                run(&rt, alloc, words.as_slice(), &mut world, &gate)
+            }
             Err(_) => say_memory(rt),
         },
-        Err(status) => status,
+        (Ok(_), Err(_)) => say_memory(rt),
+        (Err(status), _) => status,
     };
     ExitCode::from(status)
 }

@@ -5,14 +5,15 @@ ghost use Rattle.file_ends.specs.Opened.{nothing_open, with_written, is_written,
 ghost use Rattle.port_ends.specs.MachineClocks.{began_at, last_of};
 ghost use Rattle.savi_switch.specs.Openings.{IsSourceNoted, IsSinkNoted, AreEndsNoted, IsSourceAlone};
 
+use crate::awaiting::Awaiting;
 use file_ends::{FileId, FileSink, FileSource, NotOpened, OpenFiles};
 use port_ends::{ClockStart, MachineClock, PortSink, PortSource};
 use savi_ends::{Ends, Sink, Source};
-use socket_ends::{SocketSink, SocketSource, open_sockets};
+use socket_ends::{Resting, SocketSink, SocketSource, open_sockets};
 use std::alloc::Global;
 use std::fs::Files;
 use std::net::Net;
-use std::sync::Wait;
+use std::sync::{Arc, Wait};
 
 /// A file, or what the peer of a socket sends.
 pub type RealSource<R> = PortSource<FileSource, SocketSource<R>>;
@@ -34,6 +35,8 @@ pub struct Opener<R: Files + Net + Wait + Copy + Drop> {
     // what sockets listen and wait by
     rt: R,
     alloc: Global,
+    // what sockets and clocks look at
+    awaiting: Awaiting,
     files: OpenFiles,
     // when the clocks of all ends began
     start: ClockStart,
@@ -45,38 +48,42 @@ impl<R: Files + Net + Wait + Copy + Drop> Opener<R> {
         host: HostRuntime,
         rt: R,
         alloc: Global,
+        awaiting: Awaiting,
         out: Option<FileId>,
         err: Option<FileId>,
     ) -> Opener<R>
         ensures { result.files ≡ with_written (with_written nothing_open out) err }
     {
+        let start = awaiting.pauses.start();
         Opener {
             host,
             rt,
             alloc,
+            awaiting,
             files: OpenFiles::at_start(out, err),
-            start: ClockStart::read(&host),
+            start,
         }
     }
 
-    /// A clock of this run.
+    /// A clock of this run, which stands while its inputs wait.
     pub fn clock(&self) -> RealClock
         ensures { last_of result ≡ began_at self.now.start }
     {
-        MachineClock::new(self.host, self.start)
+        let pauses = Arc::try_clone(&self.awaiting.pauses).ok();
+        MachineClock::new(self.host, self.start, pauses)
     }
 
-    /// The ends over these two names: sockets, where they are live, or files. `None` where one can't be opened.
-    pub fn ends(&mut self, input: &str, output: &str, live: bool) -> Option<RealEnds<R>>
+    /// The ends over these two names: sockets, where they are live, of which the sink does so with what a peer doesn't take,
+    /// or files. `None` where one can't be opened.
+    pub fn ends(&mut self, input: &str, output: &str, live: Option<Resting>) -> Option<RealEnds<R>>
         ensures source { IfSome result (λ ends. ⟦<RealSource<R> as Source>⟧.faults ends.source ≡ 0) }
         ensures sink { IfSome result (λ ends. ⟦<RealSink<R> as Sink>⟧.faults ends.sink ≡ 0) }
         ensures noted { IfSome result (λ ends. AreEndsNoted self.old.files self.new.files ends.source ends.sink) }
         ensures unopened { IfNone result (IsSourceAlone self.old.files self.new.files) }
     {
-        let (source, sink) = if live {
-            self.sockets(input, output)?
-        } else {
-            self.files(input, output)?
+        let (source, sink) = match live {
+            Some(resting) => self.sockets(resting, input, output)?,
+            None => self.files(input, output)?,
         };
         Some(Ends {
             source,
@@ -120,12 +127,26 @@ impl<R: Files + Net + Wait + Copy + Drop> Opener<R> {
     }
 
     // The ends over the sockets at these two paths.
-    fn sockets(&self, input: &str, output: &str) -> Option<(RealSource<R>, RealSink<R>)>
+    fn sockets(
+        &self,
+        resting: Resting,
+        input: &str,
+        output: &str,
+    ) -> Option<(RealSource<R>, RealSink<R>)>
         ensures source { IfSome result (λ ends. ⟦<RealSource<R> as Source>⟧.faults ends.0 ≡ 0) }
         ensures sink { IfSome result (λ ends. ⟦<RealSink<R> as Sink>⟧.faults ends.1 ≡ 0) }
         ensures noted { IfSome result (λ ends. AreEndsNoted self.now.files self.now.files ends.0 ends.1) }
     {
-        let (source, sink) = open_sockets(self.rt, &self.host, self.alloc, input, output).ok()?;
+        let opened = open_sockets(
+            self.rt,
+            &self.host,
+            self.alloc,
+            &self.awaiting.outputs,
+            resting,
+            input,
+            output,
+        );
+        let (source, sink) = opened.ok()?;
         Some((PortSource::Socket(source), PortSink::Socket(sink)))
     }
 }

@@ -4,12 +4,14 @@ ghost use Rattle.std.specs.Prelude.{◌≡◌, ◌≤◌, ℕ, List, true, false
 ghost use Rattle.savi_kinds.specs.Ports.{number_of};
 ghost use Rattle.savi_ends.specs.Faults.{RoseOnce};
 
+use crate::awaiting::Awaiting;
 use crate::opener::{Opener, RealClock, RealEnds, RealSink, RealSource};
 use end_places::{NamedSpot, NamedSpots, PortSpots, Spot};
 use file_ends::{FileId, FileSink};
 use port_ends::PortSink;
 use savi_ends::{OpenFailed, Sink, Source, Std, World};
 use savi_kinds::{Format, Port, PortPlan, Text};
+use socket_ends::Resting;
 use std::alloc::{AllocError, Global};
 use std::fs::Files;
 use std::net::Net;
@@ -44,11 +46,12 @@ impl<R: Files + Net + Wait + Copy + Drop> RealWorld<R> {
     ghost use Rattle.savi_switch.specs.RealWorlds.{book_of};
 
     /// A world that has handed out nothing, where standard output and standard error are sent to these files, as far as they
-    /// are regular ones. `Err` is want of memory.
+    /// are regular ones. Its sockets and clocks look at what is awaited. `Err` is want of memory.
     pub fn make(
         host: HostRuntime,
         rt: R,
         alloc: Global,
+        awaiting: &Awaiting,
         out: Option<FileId>,
         err: Option<FileId>,
     ) -> Result<RealWorld<R>, AllocError>
@@ -59,7 +62,7 @@ impl<R: Files + Net + Wait + Copy + Drop> RealWorld<R> {
             host,
             alloc,
             faults: 0,
-            opener: Opener::new(host, rt, alloc, out, err),
+            opener: Opener::new(host, rt, alloc, awaiting.shared()?, out, err),
             has_written: false,
             input: NamedSpot::new(),
             outputs: NamedSpots::make(alloc)?,
@@ -172,8 +175,8 @@ impl<R: Files + Net + Wait + Copy + Send + Sync + Drop> World for RealWorld<R> {
         ensures unnoted { IfErr result (λ e. IsSourceAlone self.old.opener.files self.new.opener.files) }
     {
         let live = match plan.format {
-            Format::Pcap => false,
-            Format::Stream => true,
+            Format::Pcap => None,
+            Format::Stream => Some(Resting::Drops),
         };
         match self
             .opener
@@ -195,6 +198,7 @@ impl<R: Files + Net + Wait + Copy + Send + Sync + Drop> World for RealWorld<R> {
         ensures noted { IfOk result (λ ends. AreEndsNoted self.old.opener.files self.new.opener.files ends.source ends.sink) }
         ensures unnoted { IfErr result (λ e. IsSourceAlone self.old.opener.files self.new.opener.files) }
     {
+        let live = if live { Some(Resting::Fails) } else { None };
         match self.opener.ends(source, sink, live) {
             Some(ends) => {
                 self.control.hand_out();

@@ -1,5 +1,2 @@
 pub mod Fronts
-pub mod Finding
-pub mod EndLines
-pub mod WrittenLines
 pub mod ToldLines

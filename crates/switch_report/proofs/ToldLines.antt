@@ -8,7 +8,9 @@ use Rattle.savi_ends.specs.Octets.{behind}
 use Rattle.savi_ends.specs.Writes.{Extends}
 use Rattle.savi_ends.proofs.Octets.{behind_again}
 use Rattle.savi_history.specs.EndLines.{end_line, told_lines}
-use Rattle.switch_report.proofs.WrittenLines.{joined}
+
+joined : (a b c d : List ℕ) → (a ++ (b ++ c)) ++ d ≡ (a ++ b) ++ (c ++ d)
+joined a b c d = rw (append_assoc, append_assoc, append_assoc) refl
 
 lines_append : (ends more : List (Who × How)) → told_lines (ends ++ more) ≡ told_lines ends ++ told_lines more
 lines_append [] more = refl

@@ -2,12 +2,11 @@
 
 ghost use Rattle.std.specs.Prelude.{◌≡◌, ◌≤◌, ◌+◌, ◌++◌, [], length, codes, decimal};
 ghost use Rattle.arrayvec.specs.ArrayVec.{array_vec_len};
-ghost use Rattle.savi_history.specs.Endings.{is_paused_reason};
-ghost use Rattle.savi_history.specs.EndLines.{where_text, failed_text, end_line, end_line_of, paused_line, entry_line};
+ghost use Rattle.savi_history.specs.EndLines.{where_text, failed_text, end_line, end_line_of};
 
 use arrayvec::ArrayVec;
 use itoa::Buffer;
-use savi_kinds::{Act, How, Port, Who};
+use savi_kinds::{How, Port, Who};
 
 /// The octets of the longest line of an end: `port 16`, a colon and a space, `overlong line at `, a number of 20 digits
 /// and the line feed.
@@ -15,42 +14,6 @@ pub const END_LINE_OCTETS: usize = 47;
 
 /// A buffer for a line of an end.
 pub type EndLine = ArrayVec<u8, END_LINE_OCTETS>;
-
-/// Writes the line of an entry behind so many others, in place of what the buffer held: nothing, unless it is the end of an
-/// input for which there was no room, or another end that isn't an ordinary one, one by `quit` or a pause.
-pub fn put_entry_line(before: u64, act: Act, into: &mut EndLine)
-    ensures { into.new.items ≡ entry_line before act }
-{
-    into.clear();
-    match act {
-        Act::End { who, how } => {
-            if is_paused(how) {
-                put_paused(into, before, who);
-            } else {
-                put_end_line(into, who, how);
-            }
-        }
-        _ => {}
-    }
-}
-
-// Whether a pass that ends so is paused.
-fn is_paused(how: How) -> bool
-    ensures { result ≡ is_paused_reason how }
-{
-    matches!(how, How::Paused)
-}
-
-// Writes the line of a pause behind so many entries, where it is that of an input.
-fn put_paused(into: &mut EndLine, before: u64, who: Who)
-    requires { into.old.items ≡ [] }
-    ensures { into.new.items ≡ paused_line before who }
-{
-    match who {
-        Who::Ingress(_) | Who::Control => put_counted(into, who, "history full at ", before),
-        Who::Ticker | Who::Egress(_) => {}
-    }
-}
 
 /// Writes the line of an end into an empty buffer: nothing for an ordinary end, one by `quit` or a pause.
 pub fn put_end_line(into: &mut EndLine, who: Who, how: How)

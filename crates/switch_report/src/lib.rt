@@ -7,7 +7,6 @@
 mod check_line;
 mod end_line;
 mod end_lines;
-mod ending;
 mod run_lines;
 mod summary;
 mod summary_text;
@@ -16,8 +15,7 @@ mod told_ends;
 pub use check_line::{
     CHECK_LINE_OCTETS, CheckLine, FIELD_TEXT_OCTETS, put_bad_line, put_good, put_wrong,
 };
-pub use end_lines::{tell_end, tell_ends};
-pub use ending::{has_failed, has_failed_write, has_malformed, has_paused_end};
+pub use end_lines::tell_end;
 pub use run_lines::{
     port_name, tell_config, tell_malformed, tell_memory, tell_unopened, tell_unread,
     tell_unwritten, tell_usage,

@@ -33,7 +33,6 @@ pub record Clauses {S K C : Type 0} (left : S → Option (List ℕ)) (written : 
   pub unopened : (file : List ℕ) → IsReplay file words → status ≡ 7 → IsUnopened true left source_faults file (WasTold sink_faults written old new) old new
   pub session : (file : List ℕ) → IsReplay file words → IsOneOf session_statuses status
       → IsFileUnread left source_faults file (WasTold sink_faults written old new) old new status ⊎ IsSession left written source_faults sink_faults file (WasTold sink_faults written old new) old new status
-  pub room : (file : List ℕ) → IsReplay file words → status ≢ 8
   pub read : (file : List ℕ) → IsReplay file words → status ≡ 5 → HasSomeReadFault source_faults file new
   pub write : (file : List ℕ) → IsReplay file words → status ≡ 6 → HasSomeWriteFault sink_faults new
   pub quiet : IsOneOf quiet_statuses status → new.std Out ≡ old.std Out
@@ -71,7 +70,6 @@ clauses_of {S} {K} {C} left written source_faults sink_faults readings words b0 
       still = λ other. ap (λ (b : Book S K C). b.faults) untouched.rest;
       unopened = λ file form. absurd (none (inl (file, form)));
       session = λ file form. absurd (none (inl (file, form)));
-      room = λ file form. absurd (none (inl (file, form)));
       read = λ file form. absurd (none (inl (file, form)));
       write = λ file form. absurd (none (inl (file, form)));
       quiet = λ one_of. untouched.out;
@@ -100,7 +98,6 @@ clauses_of {S} {K} {C} left written source_faults sink_faults readings words b0 
       still = did.still;
       unopened = λ f is seven. rw (same_file words f file is form) (did.unopened seven);
       session = λ f is one_of. rw (same_file words f file is form) (did.session one_of);
-      room = λ f is. r.room;
       read = λ f is five. rw (same_file words f file is form) (read_fault_of left written source_faults sink_faults _ b0 b3 file status five (did.session (subst (λ (n : ℕ). IsOneOf session_statuses n) (sym five) refl)));
       write = λ f is six. write_fault_of left written source_faults sink_faults _ b0 b3 file status six (did.session (subst (λ (n : ℕ). IsOneOf session_statuses n) (sym six) refl));
       quiet = did.quiet;
@@ -129,7 +126,6 @@ clauses_of {S} {K} {C} left written source_faults sink_faults readings words b0 
       still = did.still;
       unopened = λ f is. absurd (replays f is);
       session = λ f is. absurd (replays f is);
-      room = λ f is. absurd (replays f is);
       read = λ f is. absurd (replays f is);
       write = λ f is. absurd (replays f is);
       quiet = did.quiet;
@@ -156,7 +152,6 @@ clauses_of {S} {K} {C} left written source_faults sink_faults readings words b0 
       still = λ other. ran_unfailed b0 b1 b2 b3 e e' ran (r.still other);
       unopened = λ f is. absurd (replays f is);
       session = λ f is. absurd (replays f is);
-      room = λ f is. absurd (replays f is);
       read = λ f is. absurd (replays f is);
       write = λ f is. absurd (replays f is);
       quiet = λ quiet. ran_quiet b0 b1 b2 b3 e e' ran (check_out left written source_faults sink_faults file Says b1 b2 status r quiet);
@@ -183,7 +178,6 @@ clauses_of {S} {K} {C} left written source_faults sink_faults readings words b0 
       still = λ other. ran_unfailed b0 b1 b2 b3 e e' ran (ap (λ (b : Book S K C). b.faults) r.rest);
       unopened = λ file is. absurd (replays file is);
       session = λ file is. absurd (replays file is);
-      room = λ file is. absurd (replays file is);
       read = λ file is. absurd (replays file is);
       write = λ file is. absurd (replays file is);
       quiet = λ quiet. ran_quiet b0 b1 b2 b3 e e' ran (load_out written sink_faults seed frames Says b1 b2 status r quiet);
@@ -212,7 +206,6 @@ clauses_of {S} {K} {C} left written source_faults sink_faults readings words b0 
       still = λ other. ran_unfailed b0 b1 b2 b3 e e' ran (capture_still left written source_faults sink_faults file Says b1 b2 status r other);
       unopened = λ f is. absurd (replays f is);
       session = λ f is. absurd (replays f is);
-      room = λ f is. absurd (replays f is);
       read = λ f is. absurd (replays f is);
       write = λ f is. absurd (replays f is);
       quiet = λ quiet. ran_quiet b0 b1 b2 b3 e e' ran (capture_out left written source_faults sink_faults file Says b1 b2 status r quiet);

@@ -32,14 +32,13 @@ use Rattle.hist_store.specs.Rows.{Row}
 use Rattle.journal_check.specs.declared.answer.Checked.{Checked}
 use Rattle.journal_check.specs.declared.answer.Checked.TheVariants as answers
 use Rattle.journal_check.specs.Laws.{IsFinishedJournal}
-use Rattle.checkpoint.specs.Bases.{empty}
 use Rattle.savi_history.specs.ControlFits.{FitsControl}
 use Rattle.savi_history.specs.ControlInputs.{control_end, entered_lines}
-use Rattle.savi_history.specs.Endings.{has_failed, has_failed_write, has_malformed, has_paused_end, is_failed_reason, is_malformed_reason}
+use Rattle.savi_history.specs.Endings.{has_failed, has_failed_write, has_malformed, is_failed_reason, is_malformed_reason}
 use Rattle.savi_history.specs.Fits.{Fits}
 use Rattle.savi_history.specs.PortInputs.{arrived, input_end}
 use Rattle.savi_segments.specs.Unbroken.{unbroken}
-use Rattle.live_session.specs.LiveControl.{AreLiveLines}
+use Rattle.control_reader.specs.LiveLines.{AreLiveLines}
 use Rattle.port_worker.specs.ControlServed.{AreLines}
 use Rattle.run_config.specs.Configs.{EndHasFault, OfText}
 use Rattle.run_config.specs.Words.{IsReplay, IsServe, IsLearn}
@@ -52,13 +51,13 @@ use Rattle.switch_run.specs.Live.{IsServeSession, ServesControlAt}
 use Rattle.switch_run.specs.Splits.{IsCaptureRun, IsTold}
 use Rattle.switch_run.specs.Loads.{IsLoadRun}
 use Rattle.switch_run.specs.Session.{IsFileUnread, IsNoPlan, IsSession, ServesControlPlace, WasTold}
-use Rattle.switch_run.specs.Unhindered.{ArePortsWhole, AreWhole, AreWholeLines, GoesThrough, IsAtLimit, IsComplete, IsFaultless, IsUnhindered, IsWholeInput, Tells}
+use Rattle.switch_run.specs.Unhindered.{ArePortsWhole, AreWhole, AreWholeLines, IsComplete, IsFaultless, IsUnhindered, IsWholeInput, Tells}
 use Rattle.switch_run.proofs.Clauses.{Clauses}
 use Rattle.switch_run.proofs.LearnClauses.{AllClauses}
 use Rattle.switch_run.proofs.LearnFaults.{ends_among}
 use Rattle.switch_run.proofs.Faulting.{ended_alone, no_input, unwritten_fault}
 use Rattle.switch_run.proofs.LegalFailures.{number_of_place, plan_element}
-use Rattle.switch_run.proofs.LegalFaults.{IsMalformedAt, paused_has_no_room, legal_malformed, segments_malformed}
+use Rattle.switch_run.proofs.LegalFaults.{IsMalformedAt, segments_malformed}
 use Rattle.switch_run.proofs.WholeInputs.{both_told, lines_not_malformed, live_not_malformed, told_of, whole_not_entered_malformed, whole_not_heard_malformed, whole_not_replayed_malformed}
 
 -- statuses
@@ -73,40 +72,24 @@ not_first : (m n : ℕ) (ns : List ℕ) → n ≢ m → IsOneOf (m ∷ ns) n →
 not_first m n ns other is = elim (one_or m n ns is) [ inl same ↦ absurd (other same) | inr rest ↦ rest ]
 
 -- a status that is none of 2 to 7
-goes : (Limited : Type 0) (n : ℕ) → IsOneOf statuses n → n ≢ 2 → n ≢ 3 → n ≢ 4 → n ≢ 5 → n ≢ 6 → n ≢ 7 → (n ≡ 8 → Limited) → GoesThrough Limited n
-goes Limited n is two three four five six seven limited = elim (one_or 0 n (1 ∷ 2 ∷ 3 ∷ 4 ∷ 5 ∷ 6 ∷ 7 ∷ 8 ∷ []) is) [
+goes : (n : ℕ) → IsOneOf statuses n → n ≢ 2 → n ≢ 3 → n ≢ 4 → n ≢ 5 → n ≢ 6 → n ≢ 7 → (n ≡ 0) ⊎ (n ≡ 1)
+goes n is two three four five six seven = elim (one_or 0 n (1 ∷ 2 ∷ 3 ∷ 4 ∷ 5 ∷ 6 ∷ 7 ∷ []) is) [
   | inl zero_is ↦ inl zero_is
-  | inr some ↦ elim (one_or 1 n (2 ∷ 3 ∷ 4 ∷ 5 ∷ 6 ∷ 7 ∷ 8 ∷ []) some) [
-    | inl one_is ↦ inr (inl one_is)
+  | inr some ↦ elim (one_or 1 n (2 ∷ 3 ∷ 4 ∷ 5 ∷ 6 ∷ 7 ∷ []) some) [
+    | inl one_is ↦ inr one_is
     | inr rest ↦
-        let four_up : IsOneOf (4 ∷ 5 ∷ 6 ∷ 7 ∷ 8 ∷ []) n = not_first 3 n (4 ∷ 5 ∷ 6 ∷ 7 ∷ 8 ∷ []) three (not_first 2 n (3 ∷ 4 ∷ 5 ∷ 6 ∷ 7 ∷ 8 ∷ []) two rest) in
-        let six_up : IsOneOf (6 ∷ 7 ∷ 8 ∷ []) n = not_first 5 n (6 ∷ 7 ∷ 8 ∷ []) five (not_first 4 n (5 ∷ 6 ∷ 7 ∷ 8 ∷ []) four four_up) in
-        let eight : IsOneOf (8 ∷ []) n = not_first 7 n (8 ∷ []) seven (not_first 6 n (7 ∷ 8 ∷ []) six six_up) in
-        elim (one_or 8 n [] eight) [
-          | inl is_eight ↦ inr (inr (is_eight, limited is_eight))
-          | inr none ↦ absurd (let t : false ≡ true = none in cc)
-        ]
+        let four_up : IsOneOf (4 ∷ 5 ∷ 6 ∷ 7 ∷ []) n = not_first 3 n (4 ∷ 5 ∷ 6 ∷ 7 ∷ []) three (not_first 2 n (3 ∷ 4 ∷ 5 ∷ 6 ∷ 7 ∷ []) two rest) in
+        let six_up : IsOneOf (6 ∷ 7 ∷ []) n = not_first 5 n (6 ∷ 7 ∷ []) five (not_first 4 n (5 ∷ 6 ∷ 7 ∷ []) four four_up) in
+        let none : IsOneOf [] n = not_first 7 n [] seven (not_first 6 n (7 ∷ []) six six_up) in
+        absurd (let t : false ≡ true = none in cc)
   ]
 ]
 
-unlimited : (n : ℕ) → GoesThrough ⊥ n → (n ≡ 0) ⊎ (n ≡ 1)
-unlimited n (inl zero_is) = inl zero_is
-unlimited n (inr (inl one_is)) = inr one_is
-unlimited n (inr (inr (eight, never))) = absurd never
-
-malformed_by : (status : ℕ) (f w m h : Bool) → status ≡ (if f then 5 else if w then 6 else if m then 4 else if h then 8 else 0) → status ≡ 4 → m ≡ true
-malformed_by status true w m h is e = absurd (omega (arith, is, e))
-malformed_by status false true m h is e = absurd (omega (arith, is, e))
-malformed_by status false false true h is e = refl
-malformed_by status false false false true is e = absurd (omega (arith, is, e))
-malformed_by status false false false false is e = absurd (omega (arith, is, e))
-
-paused_by : (status : ℕ) (f w m h : Bool) → status ≡ (if f then 5 else if w then 6 else if m then 4 else if h then 8 else 0) → status ≡ 8 → h ≡ true
-paused_by status true w m h is e = absurd (omega (arith, is, e))
-paused_by status false true m h is e = absurd (omega (arith, is, e))
-paused_by status false false true h is e = absurd (omega (arith, is, e))
-paused_by status false false false true is e = refl
-paused_by status false false false false is e = absurd (omega (arith, is, e))
+malformed_by : (status : ℕ) (f w m : Bool) → status ≡ (if f then 5 else if w then 6 else if m then 4 else 0) → status ≡ 4 → m ≡ true
+malformed_by status true w m is e = absurd (omega (arith, is, e))
+malformed_by status false true m is e = absurd (omega (arith, is, e))
+malformed_by status false false true is e = refl
+malformed_by status false false false is e = absurd (omega (arith, is, e))
 
 -- no opening failed where the world's count didn't rise
 not_risen : (before now : ℕ) → before ≡ 0 → now ≡ before → RoseOnce before now → ⊥
@@ -166,11 +149,11 @@ control_place {S} {K} {C} left written source_faults sink_faults plan segments h
     (told_of (λ (e : Ends S K C). left e.source) (AreWholeLines false) (old (control_key false names)) serves.handed serves.told whole)
 
 module _ {S K C : Type 0} (left : S → Option (List ℕ)) (written : K → Option (List ℕ)) (source_faults : S → ℕ) (sink_faults : K → ℕ) (Says : List ℕ → Type 0) (old new : Book S K C) (file : List ℕ) (status : ℕ) (s : IsSession left written source_faults sink_faults file Says old new status) where
-  abbrev segments : List (List Row)
-  segments = s.session.did.segments
+  abbrev played : List (List Row)
+  played = s.session.did.segments
 
   abbrev rows : List Row
-  rows = unbroken segments
+  rows = unbroken played
 
   ended_in_order : (how : How) → control_end rows ≡ Some how → is_malformed_reason how ≡ true → s.session.did.serves.lines ≡ None → ⊥
   ended_in_order how is reason none =
@@ -189,59 +172,52 @@ module _ {S K C : Type 0} (left : S → Option (List ℕ)) (written : K → Opti
         whole_not_replayed_malformed (left at.handed.source) (left at.back.source) (arrived n rows) how reason fits
         (told_of (λ (e : Ends S K C). left e.source) (IsWholeInput Pcap) (ports_in s.plan old n) at.handed at.told (told_capture left old s.plan (s.configured.built.captures refl) whole.ports k inside))
     replay_at (inr (how, reason, is)) =
-        control_place left written source_faults sink_faults s.plan segments how s.plan.control s.session.did.serves.lines s.session.did.serves.stops.control old.control new.control s.session.did.serves.control
+        control_place left written source_faults sink_faults s.plan played how s.plan.control s.session.did.serves.lines s.session.did.serves.stops.control old.control new.control s.session.did.serves.control
         (ended_in_order how is reason) whole.control is reason
 
     replay_sound : status ≡ 4 → ⊥
     replay_sound four =
         let r = s.session.did.reported in
-        let bad : has_malformed rows ≡ true = malformed_by status (has_failed rows) (has_failed_write rows || not (r.journal_written && r.summed.summary_written)) (has_malformed rows) (has_paused_end rows) r.summed.cause four in
-        replay_at (segments_malformed s.plan segments s.session.did.serves.session.legal bad)
+        let bad : has_malformed rows ≡ true = malformed_by status (has_failed rows) (has_failed_write rows || not (r.journal_written && r.summed.summary_written)) (has_malformed rows) r.summed.cause four in
+        replay_at (segments_malformed s.plan played s.session.did.serves.session.legal bad)
 
 -- a live session
 
 module _ {S K C : Type 0} (left : S → Option (List ℕ)) (written : K → Option (List ℕ)) (source_faults : S → ℕ) (sink_faults : K → ℕ) (readings : C → Option (List ℕ)) where
-  live_place : (plan : Plan) (past : List Row) (how : How) (names : Option (List ℕ × List ℕ)) (old new : ControlKey → Place (Ends S K C))
-      → ServesControlAt left written source_faults sink_faults readings plan past names old new → IfSome names (λ n. Tells (λ ends. left ends.source) (old (control_key true n)) (AreWholeLines true))
-      → control_end past ≡ Some how → is_malformed_reason how ≡ true → ⊥
-  live_place plan past how None old new serves whole is reason =
+  live_place : (plan : Plan) (segments : List (List Row)) (how : How) (names : Option (List ℕ × List ℕ)) (old new : ControlKey → Place (Ends S K C))
+      → ServesControlAt left written source_faults sink_faults readings plan segments names old new → IfSome names (λ n. Tells (λ ends. left ends.source) (old (control_key true n)) (AreWholeLines true))
+      → control_end (unbroken segments) ≡ Some how → is_malformed_reason how ≡ true → ⊥
+  live_place plan segments how None old new serves whole is reason =
       let both : Some how ≡ Some hows.End = sym is ∙ serves.0.ended in
       let end : how ≡ hows.End = cc in
       let bad : true ≡ false = sym reason ∙ ap is_malformed_reason end in
       cc
-  live_place plan past how (Some names) old new serves whole is reason =
-      let fits : FitsControl AreLiveLines (left serves.handed.source) (left serves.back.source) (entered_lines past) (Some how) = subst (λ (e : Option How). FitsControl AreLiveLines (left serves.handed.source) (left serves.back.source) (entered_lines past) e) is serves.holds.fits in
-      live_not_malformed (left serves.handed.source) (left serves.back.source) (entered_lines past) how reason fits
+  live_place plan segments how (Some names) old new serves whole is reason =
+      let fits : FitsControl AreLiveLines (left serves.handed.source) (left serves.back.source) (entered_lines (unbroken segments)) (Some how) = subst (λ (e : Option How). FitsControl AreLiveLines (left serves.handed.source) (left serves.back.source) (entered_lines (unbroken segments)) e) (sym serves.holds.ended ∙ is) serves.holds.source.fits in
+      live_not_malformed (left serves.handed.source) (left serves.back.source) (entered_lines (unbroken segments)) how reason fits
       (told_of (λ (e : Ends S K C). left e.source) (AreWholeLines true) (old (control_key true names)) serves.handed serves.told whole)
 
   module _ (Says : List ℕ → Type 0) (old new : Book S K C) (file : List ℕ) (status : ℕ) (s : IsServeSession left written source_faults sink_faults readings file Says old new status) where
-    live_limited : status ≡ 8 → IsAtLimit s.plan s.session.past
-    live_limited eight =
-        let past = s.session.past in
-        let r = s.session.reported in
-        let paused : has_paused_end past ≡ true = paused_by status (has_failed past) (has_failed_write past || not (r.journal_written && r.summed.summary_written)) (has_malformed past) (has_paused_end past) r.summed.cause eight in
-        record { no_room = paused_has_no_room s.plan empty past s.session.legal paused; paused = paused }
-
     module _ (whole : AreWhole true left old s.plan) where
-      live_at : IsMalformedAt s.plan s.session.past → ⊥
+      live_at : IsMalformedAt s.plan (unbroken s.session.segments) → ⊥
       live_at (inl (k, how, inside, reason, is)) =
           let d = plan_element s.plan.ports k inside in
           let p = get_or s.plan.ports k d in
           let at = s.session.ports k d inside in
-          let ended = subst (λ (n : ℕ). input_end n s.session.past ≡ Some how) (number_of_place s.plan k d inside) is in
-          let entered = arrived (number_of p.number) s.session.past in
+          let ended = subst (λ (n : ℕ). input_end n (unbroken s.session.segments) ≡ Some how) (number_of_place s.plan k d inside) is in
+          let entered = arrived (number_of p.number) (unbroken s.session.segments) in
           let row : EnteredRow left source_faults readings p.format entered (Some how) at.handed.source at.back.source at.handed.clock at.back.clock =
           subst (λ (e : Option How). EnteredRow left source_faults readings p.format entered e at.handed.source at.back.source at.handed.clock at.back.clock) ended at.holds.0 in
           whole_not_entered_malformed left source_faults readings p.format entered how at.handed.source at.back.source at.handed.clock at.back.clock reason row
           (told_of (λ (e : Ends S K C). left e.source) (IsWholeInput p.format) (ports_in s.plan old (number_of p.number)) at.handed at.told (whole.ports k d inside))
-      live_at (inr (how, reason, is)) = live_place s.plan s.session.past how s.plan.control old.control new.control s.session.control whole.control is reason
+      live_at (inr (how, reason, is)) = live_place s.plan s.session.segments how s.plan.control old.control new.control s.session.control whole.control is reason
 
       live_sound : status ≡ 4 → ⊥
       live_sound four =
-          let past = s.session.past in
+          let rows = unbroken s.session.segments in
           let r = s.session.reported in
-          let bad : has_malformed past ≡ true = malformed_by status (has_failed past) (has_failed_write past || not (r.journal_written && r.summed.summary_written)) (has_malformed past) (has_paused_end past) r.summed.cause four in
-          live_at (legal_malformed s.plan empty past s.session.legal bad)
+          let bad : has_malformed rows ≡ true = malformed_by status (has_failed rows) (has_failed_write rows || not (r.journal_written && r.summed.summary_written)) (has_malformed rows) r.summed.cause four in
+          live_at (segments_malformed s.plan s.session.segments s.session.session.legal bad)
 
 -- learning
 
@@ -251,16 +227,7 @@ heard_malformed status false true m is e = absurd (omega (arith, is, e))
 heard_malformed status false false true is e = refl
 heard_malformed status false false false is e = absurd (omega (arith, is, e))
 
-heard_unlimited : (status : ℕ) (f w m : Bool) → status ≡ (if f then 5 else if w then 6 else if m then 4 else 0) → status ≡ 8 → ⊥
-heard_unlimited status true w m is e = absurd (omega (arith, is, e))
-heard_unlimited status false true m is e = absurd (omega (arith, is, e))
-heard_unlimited status false false true is e = absurd (omega (arith, is, e))
-heard_unlimited status false false false is e = absurd (omega (arith, is, e))
-
 module _ {S K C : Type 0} (left : S → Option (List ℕ)) (written : K → Option (List ℕ)) (source_faults : S → ℕ) (sink_faults : K → ℕ) (Says : List ℕ → Type 0) (old new : Book S K C) (file : List ℕ) (window status : ℕ) (l : IsLearning left written source_faults sink_faults file window Says old new status) where
-  heard_limited : status ≡ 8 → ⊥
-  heard_limited eight = heard_unlimited status (list_any (λ (e : Ending). is_failed_reason e.how) l.learning.endings) (not l.learning.text_written) (list_any (λ (e : Ending). is_malformed_reason e.how) l.learning.endings) l.learning.cause eight
-
   heard_sound : ArePortsWhole left old l.plan → status ≡ 4 → ⊥
   heard_sound whole four =
       let learns = l.learning.learns in
@@ -353,7 +320,7 @@ module _ {S K C : Type 0} (left : S → Option (List ℕ)) (written : K → Opti
   replay_goes file form u =
       let session : (n : ℕ) → n ≢ 5 → IsOneOf session_statuses n → status ≡ n → IsSession left written source_faults sink_faults file Says old new status = λ n other one_of is.
       session_by (IsSession left written source_faults sink_faults file Says old new status) file n other is (c.session file form (in_session n is one_of)) in
-      unlimited status (goes ⊥ status c.one_of
+      goes status c.one_of
       (λ two. c.usage.0 two (inl (file, form)))
       (λ three. never_refused true left source_faults sink_faults (AreWhole false left old) file old new u Says (c.config file form three))
       (λ four.
@@ -362,15 +329,14 @@ module _ {S K C : Type 0} (left : S → Option (List ℕ)) (written : K → Opti
       (λ five. u.faultless.read (c.read file form five))
       (λ six. u.faultless.written (c.write file form six))
       (λ seven. not_risen old.faults new.faults fresh u.faultless.opened (c.opening seven))
-      (λ eight. c.room file form eight))
 
   serve_goes : (file : List ℕ) → IsServe file words → IsUnhindered false left source_faults sink_faults (AreWhole true left old) file old new
-      → GoesThrough ((s : IsServeSession left written source_faults sink_faults readings file Says old new status) × IsAtLimit s.plan s.session.past) status
+      → (status ≡ 0) ⊎ (status ≡ 1)
   serve_goes file form u =
       let run = c.serve file form in
       let session : (n : ℕ) → n ≢ 5 → IsOneOf session_statuses n → status ≡ n → IsServeSession left written source_faults sink_faults readings file Says old new status = λ n other one_of is.
       session_by (IsServeSession left written source_faults sink_faults readings file Says old new status) file n other is (run.session (in_session n is one_of)) in
-      goes ((s : IsServeSession left written source_faults sink_faults readings file Says old new status) × IsAtLimit s.plan s.session.past) status c.one_of
+      goes status c.one_of
       (λ two. c.usage.0 two (inr (inl (file, form))))
       (λ three. never_refused false left source_faults sink_faults (AreWhole true left old) file old new u Says (run.config three))
       (λ four.
@@ -379,14 +345,13 @@ module _ {S K C : Type 0} (left : S → Option (List ℕ)) (written : K → Opti
       (λ five. u.faultless.read (c.served_read file form five))
       (λ six. u.faultless.written (c.served_write file form six))
       (λ seven. not_risen old.faults new.faults fresh u.faultless.opened (c.opening seven))
-      (λ eight. let s = session 8 (λ e. omega (arith, e)) refl eight in (s, live_limited left written source_faults sink_faults readings Says old new file status s eight))
 
   learn_goes : (file : List ℕ) (window : ℕ) → IsLearn file window words → IsUnhindered true left source_faults sink_faults (ArePortsWhole left old) file old new → (status ≡ 0) ⊎ (status ≡ 1)
   learn_goes file window form u =
       let run = (all.learn file window form).run in
       let session : (n : ℕ) → n ≢ 5 → IsOneOf session_statuses n → status ≡ n → IsLearning left written source_faults sink_faults file window Says old new status = λ n other one_of is.
       session_by (IsLearning left written source_faults sink_faults file window Says old new status) file n other is (run.session (in_session n is one_of)) in
-      unlimited status (goes ⊥ status c.one_of
+      goes status c.one_of
       (λ two. c.usage.0 two (inr (inr (inr (inr (inr (file, window, form)))))))
       (λ three. never_refused true left source_faults sink_faults (ArePortsWhole left old) file old new u Says (run.config three))
       (λ four.
@@ -395,7 +360,6 @@ module _ {S K C : Type 0} (left : S → Option (List ℕ)) (written : K → Opti
       (λ five. u.faultless.read (all.learned_read file window form five))
       (λ six. u.faultless.written (inr (inr (inr (all.learned_write file window form six)))))
       (λ seven. not_risen old.faults new.faults fresh u.faultless.opened (c.opening seven))
-      (λ eight. heard_limited left written source_faults sink_faults Says old new file window status (session 8 (λ e. omega (arith, e)) refl eight) eight))
 
   answered_exact : (file : List ℕ) → IsFaultless source_faults sink_faults file old new → IsAnswered left written source_faults sink_faults file Says old new status
       → OfText left (old.inputs file) (λ text. (status ≡ 0) ↔ ((entries : ℕ) × IsFinishedJournal text entries))
@@ -434,7 +398,7 @@ module _ {S K C : Type 0} (left : S → Option (List ℕ)) (written : K → Opti
     | inr summed ↦ load_by (EndHasFault sink_faults (new.std Out)) summed.summary_written status summed.cause (λ lost. unwritten_fault sink_faults written summed.summary_written _ (old.std Out) (new.std Out) lost summed.summary)
   ]
 
-  pub complete_of : IsComplete left written source_faults sink_faults readings words old new status
+  pub complete_of : IsComplete left source_faults sink_faults words old new status
   complete_of = record {
     replay = replay_goes;
     serve = serve_goes;

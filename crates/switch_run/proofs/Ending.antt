@@ -7,7 +7,7 @@ use Rattle.savi_ends.specs.declared.world.Std.TheVariants.{Out}
 use Rattle.savi_ends.specs.declared.world.Ends.{Ends}
 use Rattle.savi_ends.specs.Places.{Place, Book, PortKey, ControlKey, OthersStay}
 use Rattle.hist_store.specs.Rows.{Row}
-use Rattle.savi_history.specs.Endings.{has_failed, has_failed_write, has_malformed, has_paused_end}
+use Rattle.savi_history.specs.Endings.{has_failed, has_failed_write, has_malformed}
 use Rattle.savi_segments.specs.Segments.{joined}
 use Rattle.savi_segments.specs.Unbroken.{unbroken}
 use Rattle.port_worker.specs.declared.control_ends.ControlEnds.{ControlEnds}
@@ -15,11 +15,10 @@ use Rattle.port_worker.specs.declared.port_ends.PortEnds.{PortEnds}
 use Rattle.switch_ports.specs.Named.{control_key}
 use Rattle.switch_ports.specs.Openings.{IsReadAnew}
 use Rattle.switch_report.specs.RunLines.{memory_line}
-use Rattle.switch_run.specs.declared.session.Outcome.{Outcome}
+use Rattle.switch_run.specs.declared.outcome.Outcome.{Outcome}
 use Rattle.switch_run.specs.Causes.{IsBack, IsControlBack, IsOffPlanSame, IsOneOf, IsUnusedOf, KeepsAll, ports_in, quiet_statuses, session_statuses, statuses, unused_statuses}
 use Rattle.switch_run.specs.Session.{IsSessionOf, IsSummed}
 use Rattle.switch_run.specs.Played.{IsOutcomeOf, IsPlayed}
-use Rattle.switch_run.proofs.ToldEnds.{never_paused}
 use Rattle.switch_run.proofs.Through.{Handled, HandledAll, Laws, session_of, ports_back, control_back, output_back, cases_name, back_from, keeps_all_of, off_plan}
 
 -- what the clauses say where all was opened, with this session
@@ -34,40 +33,25 @@ pub record Closes {S K C : Type 0} (live : Bool) (left : S → Option (List ℕ)
   pub quiet : IsOneOf quiet_statuses status → new.std Out ≡ old.std Out
   pub unused : IsOneOf unused_statuses status → IsUnusedOf live plan old new
 
-is_status : (f w m h : Bool) → IsOneOf statuses (if f then 5 else if w then 6 else if m then 4 else if h then 8 else 0)
-is_status true w m h = refl
-is_status false true m h = refl
-is_status false false true h = refl
-is_status false false false true = refl
-is_status false false false false = refl
+is_status : (f w m : Bool) → IsOneOf statuses (if f then 5 else if w then 6 else if m then 4 else 0)
+is_status true w m = refl
+is_status false true m = refl
+is_status false false true = refl
+is_status false false false = refl
 
-not_quiet : (f w m h : Bool) → IsOneOf quiet_statuses (if f then 5 else if w then 6 else if m then 4 else if h then 8 else 0) → ⊥
-not_quiet true w m h e = let t : false ≡ true = e in cc
-not_quiet false true m h e = let t : false ≡ true = e in cc
-not_quiet false false true h e = let t : false ≡ true = e in cc
-not_quiet false false false true e = let t : false ≡ true = e in cc
-not_quiet false false false false e = let t : false ≡ true = e in cc
+not_quiet : (f w m : Bool) → IsOneOf quiet_statuses (if f then 5 else if w then 6 else if m then 4 else 0) → ⊥
+not_quiet true w m e = let t : false ≡ true = e in cc
+not_quiet false true m e = let t : false ≡ true = e in cc
+not_quiet false false true e = let t : false ≡ true = e in cc
+not_quiet false false false e = let t : false ≡ true = e in cc
 
 -- the status of what was summed up is one of those of a session
 summed_is : {K : Type 0} (written : K → Option (List ℕ)) (faults : K → ℕ) (Says : List ℕ → Type 0) (all told : List Row) (journal_written : Bool) (old new : Place K) (status : ℕ) → IsSummed written faults Says all told journal_written old new status → IsOneOf statuses status × (IsOneOf quiet_statuses status → ⊥)
 summed_is written faults Says all told journal_written old new status summed =
     let w = has_failed_write told || not (journal_written && summed.summary_written) in (
-      subst (λ (n : ℕ). IsOneOf statuses n) (sym summed.cause) (is_status (has_failed told) w (has_malformed told) (has_paused_end told)),
-      λ one_of. not_quiet (has_failed told) w (has_malformed told) (has_paused_end told) (subst (λ (n : ℕ). IsOneOf quiet_statuses n) summed.cause one_of),
+      subst (λ (n : ℕ). IsOneOf statuses n) (sym summed.cause) (is_status (has_failed told) w (has_malformed told)),
+      λ one_of. not_quiet (has_failed told) w (has_malformed told) (subst (λ (n : ℕ). IsOneOf quiet_statuses n) summed.cause one_of),
     )
-
--- where no pass was paused, want of room isn't the status
-roomy : (status : ℕ) (f w m h : Bool) → status ≡ (if f then 5 else if w then 6 else if m then 4 else if h then 8 else 0) → h ≡ false → status ≢ 8
-roomy status true w m h is none e = omega (arith, is, e)
-roomy status false true m h is none e = omega (arith, is, e)
-roomy status false false true h is none e = omega (arith, is, e)
-roomy status false false false true is none e = let both : true ≡ false = none in cc
-roomy status false false false false is none e = omega (arith, is, e)
-
-summed_room : {K : Type 0} (written : K → Option (List ℕ)) (faults : K → ℕ) (Says : List ℕ → Type 0) (segments : List (List Row)) (journal_written : Bool) (old new : Place K) (status : ℕ) → IsSummed written faults Says (joined segments) (unbroken segments) journal_written old new status → status ≢ 8
-summed_room written faults Says segments journal_written old new status summed =
-    let told = unbroken segments in
-    roomy status (has_failed told) (has_failed_write told || not (journal_written && summed.summary_written)) (has_malformed told) (has_paused_end told) summed.cause (never_paused (joined segments))
 
 -- a place that wasn't touched has its end back
 pub untouched_back : {X : Type 0} (old new : Place X) → new ≡ old → IsBack old new
@@ -152,11 +136,6 @@ module _ {S K C : Type 0} (left : S → Option (List ℕ)) (written : K → Opti
       let summed = said mid o same played concluded in
       closes_played false left written sink_faults plan Says _ (joined played.0) (unbroken played.0) o.journal_written old new status summed
       (session_of left written source_faults sink_faults plan Says control control' held back sink sink' played.0 o.journal_written old new status laws all anew played.2 summed)
-
-  -- there was room for every input
-  pub has_room : (outcome : Option Outcome) (mid : Book S K C) → mid.std ≡ old.std → IfSome outcome Plays → IfNone outcome ((status ≡ 1) × (Says memory_line × (new ≡ mid))) → IfSome outcome (Concludes mid) → status ≢ 8
-  has_room None mid same played unserved concluded eight = let one = unserved.0 in omega (arith, one, eight)
-  has_room (Some o) mid same played unserved concluded eight = summed_room written sink_faults Says played.0 o.journal_written (old.std Out) (new.std Out) status (said mid o same played concluded) eight
 
 element : {X : Type 0} (xs : List X) (k : ℕ) → k < length xs → X
 element [] k inside = absurd (omega arith)

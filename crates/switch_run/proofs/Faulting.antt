@@ -1,5 +1,5 @@
 -- Whose fault a status is.
-use Rattle.std.proofs.Common.{◌≡◌, ◌≢◌, ℕ, ◌&&◌, ◌||◌, not, if◌then◌else◌, ◌⊎◌, inl, inr, List, [], ◌∷◌, Bool, true, false, get_or, refl, sym, ap, ◌∙◌, subst, arith, ◌<◌, Option, Some, None}
+use Rattle.std.proofs.Common.{◌≡◌, ◌≢◌, ℕ, ◌&&◌, ◌||◌, not, if◌then◌else◌, ◌⊎◌, inl, inr, List, [], Bool, true, false, get_or, refl, sym, ap, ◌∙◌, subst, arith, ◌<◌, Option, Some, None}
 use Rattle.savi_kinds.specs.declared.entry.How.{How}
 use Rattle.savi_kinds.specs.declared.entry.How.TheVariants as hows
 use Rattle.savi_kinds.specs.declared.plan.Plan.{Plan}
@@ -9,12 +9,9 @@ use Rattle.savi_kinds.specs.ValidPlan.{numbers_of}
 use Rattle.savi_ends.specs.declared.world.Std.TheVariants.{Out}
 use Rattle.savi_ends.specs.declared.world.Ends.{Ends}
 use Rattle.savi_ends.specs.Places.{Place, Book, PortKey, ControlKey}
-use Rattle.port_reader.specs.Judging.{EndsBehind}
-use Rattle.port_reader.proofs.Meeting.{ends_as}
 use Rattle.cli_lang.specs.Arrivals as control
 use Rattle.hist_store.specs.Rows.{Row}
-use Rattle.checkpoint.specs.Bases.{empty}
-use Rattle.savi_history.specs.Endings.{has_failed, has_failed_write, has_malformed, has_paused_end}
+use Rattle.savi_history.specs.Endings.{has_failed, has_failed_write, has_malformed}
 use Rattle.savi_history.specs.ControlInputs.{control_end}
 use Rattle.savi_history.specs.PortInputs.{input_end}
 use Rattle.savi_history.specs.PortOutputs.{output_end}
@@ -30,21 +27,19 @@ use Rattle.switch_run.specs.Causes.{HasReadFault, HasSomeReadFault, HasSomeWrite
 use Rattle.switch_ports.specs.Named.{control_key, key_among}
 use Rattle.switch_run.specs.Live.{IsServeOf, IsServeSession, ServesControlAt}
 use Rattle.switch_run.specs.Session.{IsReplayOf, IsReported, IsSession, IsFileUnread, ServesControlPlace}
-use Rattle.switch_run.proofs.LegalFailures.{legal_failed, legal_failed_write, number_of_place, plan_element}
+use Rattle.switch_run.proofs.LegalFailures.{number_of_place, plan_element}
 
-failed_by : (status : ℕ) (f w m h : Bool) → status ≡ (if f then 5 else if w then 6 else if m then 4 else if h then 8 else 0) → status ≡ 5 → f ≡ true
-failed_by status true w m h is e = refl
-failed_by status false true m h is e = absurd (omega (arith, is, e))
-failed_by status false false true h is e = absurd (omega (arith, is, e))
-failed_by status false false false true is e = absurd (omega (arith, is, e))
-failed_by status false false false false is e = absurd (omega (arith, is, e))
+failed_by : (status : ℕ) (f w m : Bool) → status ≡ (if f then 5 else if w then 6 else if m then 4 else 0) → status ≡ 5 → f ≡ true
+failed_by status true w m is e = refl
+failed_by status false true m is e = absurd (omega (arith, is, e))
+failed_by status false false true is e = absurd (omega (arith, is, e))
+failed_by status false false false is e = absurd (omega (arith, is, e))
 
-unwritten_by : (status : ℕ) (f w m h : Bool) → status ≡ (if f then 5 else if w then 6 else if m then 4 else if h then 8 else 0) → status ≡ 6 → w ≡ true
-unwritten_by status true w m h is e = absurd (omega (arith, is, e))
-unwritten_by status false true m h is e = refl
-unwritten_by status false false true h is e = absurd (omega (arith, is, e))
-unwritten_by status false false false true is e = absurd (omega (arith, is, e))
-unwritten_by status false false false false is e = absurd (omega (arith, is, e))
+unwritten_by : (status : ℕ) (f w m : Bool) → status ≡ (if f then 5 else if w then 6 else if m then 4 else 0) → status ≡ 6 → w ≡ true
+unwritten_by status true w m is e = absurd (omega (arith, is, e))
+unwritten_by status false true m is e = refl
+unwritten_by status false false true is e = absurd (omega (arith, is, e))
+unwritten_by status false false false is e = absurd (omega (arith, is, e))
 
 -- what of a run wasn't written: an output of its history, or one of its journal and its summary
 which_unwritten : (failed written : Bool) → (failed || not written) ≡ true → (failed ≡ true) ⊎ (written ≡ false)
@@ -133,7 +128,7 @@ module _ {S K C : Type 0} (left : S → Option (List ℕ)) (written : K → Opti
   replay_read : status ≡ 5 → ((key : PortKey) × HasReadFault source_faults new key) ⊎ ((names : ControlKey) × EndHasFault (λ e. source_faults e.source) (new.control names))
   replay_read five =
       let w = has_failed_write rows || not (r.reported.journal_written && r.reported.summed.summary_written) in
-      read_at (failed_at_input plan r.segments r.serves.session.legal (failed_by status (has_failed rows) w (has_malformed rows) (has_paused_end rows) r.reported.summed.cause five))
+      read_at (failed_at_input plan r.segments r.serves.session.legal (failed_by status (has_failed rows) w (has_malformed rows) r.reported.summed.cause five))
 
   replay_fault : (has_failed_write rows ≡ true) ⊎ ((r.reported.journal_written && r.reported.summed.summary_written) ≡ false) → HasSomeWriteFault sink_faults new
   replay_fault (inl failed) = write_at (failed_write_at_output plan r.segments r.serves.session.legal failed)
@@ -142,7 +137,7 @@ module _ {S K C : Type 0} (left : S → Option (List ℕ)) (written : K → Opti
   replay_write : status ≡ 6 → HasSomeWriteFault sink_faults new
   replay_write six =
       let w = r.reported.journal_written && r.reported.summed.summary_written in
-      replay_fault (which_unwritten (has_failed_write rows) w (unwritten_by status (has_failed rows) (has_failed_write rows || not w) (has_malformed rows) (has_paused_end rows) r.reported.summed.cause six))
+      replay_fault (which_unwritten (has_failed_write rows) w (unwritten_by status (has_failed rows) (has_failed_write rows || not w) (has_malformed rows) r.reported.summed.cause six))
 
 -- a read failed where the status is 5
 pub read_fault_of : {S K C : Type 0} (left : S → Option (List ℕ)) (written : K → Option (List ℕ)) (source_faults : S → ℕ) (sink_faults : K → ℕ) (Says : List ℕ → Type 0) (old new : Book S K C) (file : List ℕ) (status : ℕ) → status ≡ 5
@@ -159,55 +154,63 @@ write_fault_of left written source_faults sink_faults Says old new file status s
 
 -- the same of a live session
 
-module _ {S K C : Type 0} (left : S → Option (List ℕ)) (written : K → Option (List ℕ)) (source_faults : S → ℕ) (sink_faults : K → ℕ) (readings : C → Option (List ℕ)) (plan : Plan) (past : List Row) where
+module _ {S K C : Type 0} (left : S → Option (List ℕ)) (written : K → Option (List ℕ)) (source_faults : S → ℕ) (sink_faults : K → ℕ) (readings : C → Option (List ℕ)) (plan : Plan) (segments : List (List Row)) where
   -- control that ended in no ordinary way has its ends in its place
-  has_live : (names : Option (List ℕ × List ℕ)) (how : How) (old new : ControlKey → Place (Ends S K C)) → ServesControlAt left written source_faults sink_faults readings plan past names old new → control_end past ≡ Some how → how ≢ hows.End
-      → (key : ControlKey) × Keeps (ControlRow left written source_faults sink_faults readings plan empty past) (old key) (new key)
+  has_live : (names : Option (List ℕ × List ℕ)) (how : How) (old new : ControlKey → Place (Ends S K C)) → ServesControlAt left written source_faults sink_faults readings plan segments names old new → control_end (unbroken segments) ≡ Some how → how ≢ hows.End
+      → (key : ControlKey) × Keeps (ControlRow left written source_faults sink_faults readings plan segments) (old key) (new key)
   has_live None how old new serves is other = absurd (other (let both : Some how ≡ Some hows.End = sym is ∙ serves.0.ended in cc))
   has_live (Some names) how old new serves is other = (control_key true names, serves)
 
 module _ {S K C : Type 0} (left : S → Option (List ℕ)) (written : K → Option (List ℕ)) (source_faults : S → ℕ) (sink_faults : K → ℕ) (readings : C → Option (List ℕ)) (plan : Plan) (Says : List ℕ → Type 0) (old new : Book S K C) (status : ℕ) (r : IsServeOf left written source_faults sink_faults readings plan Says old new status) where
-  live_read_at : IsOfInput plan r.past → ((key : PortKey) × HasReadFault source_faults new key) ⊎ ((names : ControlKey) × EndHasFault (λ e. source_faults e.source) (new.control names))
+  live_read_at : IsOfInput plan (unbroken r.segments) → ((key : PortKey) × HasReadFault source_faults new key) ⊎ ((names : ControlKey) × EndHasFault (λ e. source_faults e.source) (new.control names))
   live_read_at (inl (k, inside, is)) =
       let d = plan_element plan.ports k inside in
       let p = get_or plan.ports k d in
       let at = r.ports k d inside in
       let row = at.holds.0 in
-      let ended : input_end (number_of p.number) r.past ≡ Some hows.Failed = subst (λ (n : ℕ). input_end n r.past ≡ Some hows.Failed) (number_of_place plan k d inside) is in
-      let rose = row.2.broken (ends_as row.0 row.1 hows.Failed (λ same. cc) (subst (λ (e : Option How). EndsBehind row.0 row.1 e) ended row.3)) in
+      let ended : input_end (number_of p.number) (unbroken r.segments) ≡ Some hows.Failed = subst (λ (n : ℕ). input_end n (unbroken r.segments) ≡ Some hows.Failed) (number_of_place plan k d inside) is in
+      let both : Some row.0 ≡ Some hows.Failed = sym row.1 ∙ ended in
+      let failed : row.0 ≡ hows.Failed = cc in
+      let rose = row.2.broken failed in
       inl (key_among plan.ports (number_of p.number), fault_kept (λ (e : Ends S K C). source_faults e.source) (ports_in plan new (number_of p.number)) at.back at.kept (omega (arith, rose)))
   live_read_at (inr is) =
-      let ends = has_live left written source_faults sink_faults readings plan r.past plan.control hows.Failed old.control new.control r.control is (λ e. cc) in
+      let ends = has_live left written source_faults sink_faults readings plan r.segments plan.control hows.Failed old.control new.control r.control is (λ e. cc) in
       let at = ends.1 in
-      let rose = at.holds.broken is in
+      let both : Some at.holds.ending ≡ Some hows.Failed = sym at.holds.ended ∙ is in
+      let failed : at.holds.ending ≡ hows.Failed = cc in
+      let rose = at.holds.source.broken failed in
       inr (ends.0, fault_kept (λ (e : Ends S K C). source_faults e.source) (new.control ends.0) at.back at.kept (omega (arith, rose)))
 
-  live_write_at : IsOfOutput plan r.past → HasSomeWriteFault sink_faults new
+  live_write_at : IsOfOutput plan (unbroken r.segments) → HasSomeWriteFault sink_faults new
   live_write_at (inl (k, inside, is)) =
       let d = plan_element plan.ports k inside in
       let p = get_or plan.ports k d in
       let at = r.ports k d inside in
-      let rose = at.holds.1.broken (subst (λ (n : ℕ). output_end n r.past ≡ Some hows.Failed) (number_of_place plan k d inside) is) in
+      let rose = at.holds.1.broken (subst (λ (n : ℕ). output_end n (unbroken r.segments) ≡ Some hows.Failed) (number_of_place plan k d inside) is) in
       inl (key_among plan.ports (number_of p.number), fault_kept (λ (e : Ends S K C). sink_faults e.sink) (ports_in plan new (number_of p.number)) at.back at.kept (omega (arith, rose)))
   live_write_at (inr is) =
-      let ends = has_live left written source_faults sink_faults readings plan r.past plan.control hows.Unwritten old.control new.control r.control is (λ e. cc) in
+      let ends = has_live left written source_faults sink_faults readings plan r.segments plan.control hows.Unwritten old.control new.control r.control is (λ e. cc) in
       let at = ends.1 in
-      let rose = at.holds.unwritten is in
+      let both : Some at.holds.ending ≡ Some hows.Unwritten = sym at.holds.ended ∙ is in
+      let unwritten : at.holds.ending ≡ hows.Unwritten = cc in
+      let rose = at.holds.unwritten unwritten in
       inr (inl (ends.0, fault_kept (λ (e : Ends S K C). sink_faults e.sink) (new.control ends.0) at.back at.kept (omega (arith, rose))))
 
   live_read : status ≡ 5 → ((key : PortKey) × HasReadFault source_faults new key) ⊎ ((names : ControlKey) × EndHasFault (λ e. source_faults e.source) (new.control names))
   live_read five =
-      let w = has_failed_write r.past || not (r.reported.journal_written && r.reported.summed.summary_written) in
-      live_read_at (legal_failed plan empty r.past r.legal (failed_by status (has_failed r.past) w (has_malformed r.past) (has_paused_end r.past) r.reported.summed.cause five))
+      let rows = unbroken r.segments in
+      let w = has_failed_write rows || not (r.reported.journal_written && r.reported.summed.summary_written) in
+      live_read_at (failed_at_input plan r.segments r.session.legal (failed_by status (has_failed rows) w (has_malformed rows) r.reported.summed.cause five))
 
-  live_fault : (has_failed_write r.past ≡ true) ⊎ ((r.reported.journal_written && r.reported.summed.summary_written) ≡ false) → HasSomeWriteFault sink_faults new
-  live_fault (inl failed) = live_write_at (legal_failed_write plan empty r.past r.legal failed)
-  live_fault (inr unwritten) = unwritten_named written sink_faults plan (r.past ∷ []) r.past Says old new status r.reported unwritten
+  live_fault : (has_failed_write (unbroken r.segments) ≡ true) ⊎ ((r.reported.journal_written && r.reported.summed.summary_written) ≡ false) → HasSomeWriteFault sink_faults new
+  live_fault (inl failed) = live_write_at (failed_write_at_output plan r.segments r.session.legal failed)
+  live_fault (inr unwritten) = unwritten_named written sink_faults plan r.segments (unbroken r.segments) Says old new status r.reported unwritten
 
   live_write : status ≡ 6 → HasSomeWriteFault sink_faults new
   live_write six =
+      let rows = unbroken r.segments in
       let w = r.reported.journal_written && r.reported.summed.summary_written in
-      live_fault (which_unwritten (has_failed_write r.past) w (unwritten_by status (has_failed r.past) (has_failed_write r.past || not w) (has_malformed r.past) (has_paused_end r.past) r.reported.summed.cause six))
+      live_fault (which_unwritten (has_failed_write rows) w (unwritten_by status (has_failed rows) (has_failed_write rows || not w) (has_malformed rows) r.reported.summed.cause six))
 
 pub live_read_fault : {S K C : Type 0} (left : S → Option (List ℕ)) (written : K → Option (List ℕ)) (source_faults : S → ℕ) (sink_faults : K → ℕ) (readings : C → Option (List ℕ)) (Says : List ℕ → Type 0) (old new : Book S K C) (file : List ℕ) (status : ℕ) → status ≡ 5
     → IsFileUnread left source_faults file Says old new status ⊎ IsServeSession left written source_faults sink_faults readings file Says old new status → HasSomeReadFault source_faults file new

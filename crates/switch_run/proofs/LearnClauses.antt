@@ -212,7 +212,6 @@ all_clauses {S} {K} {C} left written source_faults sink_faults readings words b0
         still = did.still;
         unopened = λ f is. absurd (not_replayed words file window f form is);
         session = λ f is. absurd (not_replayed words file window f form is);
-        room = λ f is. absurd (not_replayed words file window f form is);
         read = λ f is. absurd (not_replayed words file window f form is);
         write = λ f is. absurd (not_replayed words file window f form is);
         quiet = did.quiet;

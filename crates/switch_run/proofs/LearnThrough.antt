@@ -50,10 +50,10 @@ learns_places {S} {K} {C} left written source_faults sink_faults plan window end
       let size = size_of held plan.ports ports in
       let inside : k < length held = omega (arith, size, within) in
       let d = element held k inside in
-      let Heard : State → Ends S K C → Ends S K C → Type 0 = λ s. IsHeard left source_faults (Comes s) (get_or learns.inputs k i) in
-      subst (λ (n : ℕ). Keeps (Heard (Fresh classic_kinds)) (old n) (new n)) (sym (number_at held plan.ports k d ports inside))
-      (keeps_at (Heard (Fresh classic_kinds)) held back old new k d handled inside
-      (subst (λ (s : State). Heard s (get_or held k d).ends (get_or back k d).ends) (anew k d inside) (learns.each k i within d)));
+      let HeardLine : State → Ends S K C → Ends S K C → Type 0 = λ s. IsHeard left source_faults (Comes s) (get_or learns.inputs k i) in
+      subst (λ (n : ℕ). Keeps (HeardLine (Fresh classic_kinds)) (old n) (new n)) (sym (number_at held plan.ports k d ports inside))
+      (keeps_at (HeardLine (Fresh classic_kinds)) held back old new k d handled inside
+      (subst (λ (s : State). HeardLine s (get_or held k d).ends (get_or back k d).ends) (anew k d inside) (learns.each k i within d)));
 }
 
 -- and it is what was done with the plan, where nothing was done elsewhere

@@ -1,7 +1,6 @@
--- An input that is malformed in a legal history, or in legal segments, is that of a port of the plan, or control's; and a
--- history in which a pass is paused has no room for another input.
-use Rattle.std.proofs.Common.{◌≡◌, ◌≢◌, ℕ, ◌+◌, ◌<◌, ◌≤◌, ◌==◌, ◌&&◌, ◌||◌, not, nat_lt, nat_le, Bool, true, false, List, [], ◌∷◌, ◌++◌, get_or, length, refl, ap, sym, ◌∙◌, subst, arith, if◌then◌else◌, ◌⊎◌, inl, inr, Option, Some, IsSome}
-use Rattle.std.proofs.lemmas.Bool.{false≢true, ne_eqb, cond-false, cond-true, ltb-true, leb-true, lt-ltb, le-leb, and_parts, and_from}
+-- An input that is malformed in a legal history, or in legal segments, is that of a port of the plan, or control's.
+use Rattle.std.proofs.Common.{◌≡◌, ◌≢◌, ℕ, ◌+◌, ◌<◌, ◌==◌, ◌||◌, not, Bool, true, false, List, [], ◌∷◌, ◌++◌, get_or, length, refl, sym, ◌∙◌, subst, if◌then◌else◌, ◌⊎◌, inl, inr, Option, Some, IsSome}
+use Rattle.std.proofs.lemmas.Bool.{false≢true, ne_eqb, cond-false, cond-true}
 use Rattle.savi_kinds.specs.declared.port.Port.{Port}
 use Rattle.savi_kinds.specs.declared.plan.Plan.{Plan}
 use Rattle.savi_kinds.specs.declared.entry.Who.{Who}
@@ -10,15 +9,14 @@ use Rattle.savi_kinds.specs.declared.entry.How.{How}
 use Rattle.savi_kinds.specs.declared.entry.How.TheVariants as hows
 use Rattle.savi_kinds.specs.Ports.{number_of}
 use Rattle.savi_kinds.specs.ValidPlan.{numbers_of}
-use Rattle.hist_store.specs.Rows.{Row, held}
+use Rattle.hist_store.specs.Rows.{Row}
 use Rattle.checkpoint.specs.Bases.{Base}
 use Rattle.savi_history.specs.Passes.{place_of, control_pass, has_port}
-use Rattle.savi_history.specs.Limits.{has_room}
 use Rattle.savi_history.specs.Events.{Event, Frame, Long, Command, Tick, Drain, End, row_of}
 use Rattle.savi_history.specs.Legal.{IsLegal, IsOpen, MayCome, MayEnd, MayEndEgress, MayEndTicker}
 use Rattle.savi_history.specs.PortInputs.{input_end}
 use Rattle.savi_history.specs.ControlInputs.{control_end}
-use Rattle.savi_history.specs.Endings.{has_malformed, has_pause, has_paused_end, is_input, is_malformed_reason, is_paused_reason}
+use Rattle.savi_history.specs.Endings.{has_malformed, is_malformed_reason, is_paused_reason}
 use Rattle.savi_history.proofs.PassNumbers.{known_at, number_at}
 use Rattle.savi_history.proofs.PortPlaces.{placed, place_within}
 use Rattle.savi_segments.specs.Segments.{AreLegal, base_after, joined}
@@ -176,68 +174,3 @@ pub segments_malformed : (plan : Plan) (segments : List (List Row)) → AreLegal
 segments_malformed plan [] legal is = cc
 segments_malformed plan (segment ∷ before) legal is =
     rows_malformed plan (base_after plan before) segment (joined before) legal.0 (tells_segments plan before legal.2) (segments_malformed plan before legal.2) is
-
-module _ (plan : Plan) (base : Base) where
-  -- room
-
-  -- where an input has room behind a row it had room before it
-  roomy_before : (r : Row) (past : List Row) → has_room plan (r ∷ past) ≡ true → has_room plan past ≡ true
-  roomy_before r past room =
-      let parts = and_parts (nat_lt (length (r ∷ past) + 4130) plan.entries) (nat_le (held (r ∷ past) + 1518) plan.bytes) room in
-      let entries : length (r ∷ past) + 4130 < plan.entries = ltb-true (length (r ∷ past) + 4130) plan.entries parts.0 in
-      let bytes : held (r ∷ past) + 1518 ≤ plan.bytes = leb-true (held (r ∷ past) + 1518) plan.bytes parts.1 in
-      and_from (nat_lt (length past + 4130) plan.entries) (nat_le (held past + 1518) plan.bytes)
-      (lt-ltb (length past + 4130) plan.entries (omega (arith, entries))) (le-leb (held past + 1518) plan.bytes (omega (arith, bytes)))
-
-  -- no pass is paused
-  record IsUnpaused (past : List Row) : Type 0 where
-    passes : has_paused_end past ≡ false
-    inputs : has_pause past ≡ false
-
-  -- an input is paused only where there is no room for another, and another pass only where an input is
-  not_paused : (past : List Row) (who : Who) (how : How) → has_room plan past ≡ true → has_pause past ≡ false → MayEnd plan base past who how → is_paused_reason how ≡ false
-  not_paused past who hows.End room none may = refl
-  not_paused past who hows.Quit room none may = refl
-  not_paused past who (hows.Malformed at) room none may = refl
-  not_paused past who (hows.Overlong at) room none may = refl
-  not_paused past who hows.Failed room none may = refl
-  not_paused past who hows.Unwritten room none may = refl
-  not_paused past (passes.Ingress p) hows.Paused room none may = absurd (let both : true ≡ false = sym room ∙ may in cc)
-  not_paused past passes.Control hows.Paused room none may = absurd (let both : true ≡ false = sym room ∙ may in cc)
-  not_paused past passes.Ticker hows.Paused room none may = absurd (let both : true ≡ false = sym may.1 ∙ none in cc)
-  not_paused past (passes.Egress p) hows.Paused room none may = absurd (let both : true ≡ false = sym may.1 ∙ none in cc)
-
-  no_input : (who : Who) → (is_input who && false) ≡ false
-  no_input (passes.Ingress p) = refl
-  no_input passes.Control = refl
-  no_input passes.Ticker = refl
-  no_input (passes.Egress p) = refl
-
-  roomy_end : (past : List Row) (who : Who) (how : How) → is_paused_reason how ≡ false → IsUnpaused past → IsUnpaused (row_of plan base past (End who how) ∷ past)
-  roomy_end past who how other before = record {
-    passes = ap (λ (b : Bool). b || has_paused_end past) other ∙ before.passes;
-    inputs = ap (λ (b : Bool). (is_input who && b) || has_pause past) other ∙ ap (λ (b : Bool). b || has_pause past) (no_input who) ∙ before.inputs;
-  }
-
-  roomy_event : (past : List Row) (event : Event) → MayCome plan base past event → has_room plan past ≡ true → IsUnpaused past → IsUnpaused (row_of plan base past event ∷ past)
-  roomy_event past (Frame p stamp octets) may room before = record { passes = before.passes; inputs = before.inputs }
-  roomy_event past (Long p stamp len) may room before = record { passes = before.passes; inputs = before.inputs }
-  roomy_event past (Command stamp line) may room before = record { passes = before.passes; inputs = before.inputs }
-  roomy_event past (Tick stamp) may room before = record { passes = before.passes; inputs = before.inputs }
-  roomy_event past (Drain p count) may room before = record { passes = before.passes; inputs = before.inputs }
-  roomy_event past (End who how) may room before = roomy_end past who how (not_paused past who how room before.inputs may.1) before
-
-  roomy_legal : (past : List Row) → IsLegal plan base past → has_room plan past ≡ true → IsUnpaused past
-  roomy_legal [] legal room = record { passes = refl; inputs = refl }
-  roomy_legal (r ∷ past) legal room =
-      let event = legal.0.0 in
-      let row_is : r ≡ row_of plan base past event = legal.0.2 in
-      let room_before = roomy_before r past room in
-      subst (λ (x : Row). IsUnpaused (x ∷ past)) (sym row_is) (roomy_event past event legal.0.1 room_before (roomy_legal past legal.1 room_before))
-
-  room_by : (past : List Row) (b : Bool) → (b ≡ true → has_paused_end past ≡ false) → has_paused_end past ≡ true → b ≡ false
-  room_by past true none paused = absurd (let both : true ≡ false = sym paused ∙ none refl in cc)
-  room_by past false none paused = refl
-
-  pub paused_has_no_room : (past : List Row) → IsLegal plan base past → has_paused_end past ≡ true → has_room plan past ≡ false
-  paused_has_no_room past legal paused = room_by past (has_room plan past) (λ room. (roomy_legal past legal room).passes) paused

@@ -1,5 +1,5 @@
 -- From the ends that were opened and kept for a live session to what stands when it is over.
-use Rattle.std.proofs.Common.{◌≡◌, ◌≢◌, ℕ, ◌+◌, ◌<◌, suc, zero, length-append, append-nil, ◌⊎◌, inl, inr, List, [], ◌∷◌, ◌++◌, Bool, true, false, length, map, take, drop, get_or, refl, sym, ap, ◌∙◌, subst, arith, Option, Some, None, IfNone, IfSome, IsSome, is_some, slice_index}
+use Rattle.std.proofs.Common.{◌≡◌, ◌≢◌, ℕ, ◌+◌, ◌<◌, suc, zero, length-append, ◌⊎◌, inl, inr, List, ◌∷◌, ◌++◌, Bool, true, false, length, map, take, drop, get_or, refl, sym, ap, ◌∙◌, subst, arith, Option, Some, None, IfNone, IfSome, IsSome, is_some, slice_index}
 use Rattle.std.proofs.lemmas.List.{get_or_default, get_or-take, get_or-append-add, length-map, length-take-le, take-append-drop}
 use Rattle.std.proofs.lemmas.List.Kept.{AllPairs-from_increasing}
 use Rattle.std.proofs.Math.Seq.{drop-cons}
@@ -15,7 +15,8 @@ use Rattle.savi_ends.specs.declared.world.Std.TheVariants.{Out}
 use Rattle.savi_ends.specs.declared.world.Ends.{Ends}
 use Rattle.savi_ends.specs.Places.{Place, Book, PortKey, ControlKey, IsPortOut, IsControlOut, IsControlKept}
 use Rattle.hist_store.specs.Rows.{Row}
-use Rattle.checkpoint.specs.Bases.{empty}
+use Rattle.savi_segments.specs.Segments.{joined}
+use Rattle.savi_segments.specs.Unbroken.{unbroken}
 use Rattle.live_session.specs.LiveRows.{ControlRow, TickerRow}
 use Rattle.live_session.specs.LiveSession.{PortRow, ControlOf}
 use Rattle.live_switch.specs.declared.ready.Ready.{Ready}
@@ -25,8 +26,9 @@ use Rattle.switch_ports.specs.Named.{control_key, key_among, named_by}
 use Rattle.switch_ports.proofs.Named.{key_number}
 use Rattle.switch_ports.specs.Live.{AreKept, AreOpened, IsLiveControlOpened, IsNextOf, IsOffFirst, OthersSame}
 use Rattle.switch_report.specs.RunLines.{cannot_open_line, control_word, journal_word, memory_line, port_name}
-use Rattle.switch_run.specs.declared.live.LiveOutcome.{LiveOutcome}
+use Rattle.switch_run.specs.declared.outcome.Outcome.{Outcome}
 use Rattle.switch_run.specs.Causes.{IsBack, IsControlBack, IsOffPlanSame, IsUnusedOf, Keeps, KeepsAll, KeepsControl, ports_in}
+use Rattle.switch_run.specs.Played.{IsOutcomeOf}
 use Rattle.switch_run.specs.Live.{IsLivePlayed, IsServeOf, ServesControlAt}
 use Rattle.switch_run.specs.Session.{IsControlUnopened, IsJournalUnopened, IsPortUnopened, IsSummed}
 use Rattle.switch_run.proofs.Through.{HandledEnds, HandledOne, Laws, back_from, both_told, element, is_some_of, keeps_of, output_back, reported_of, unused_ends, unused_sink}
@@ -209,39 +211,37 @@ live_off_plan {S} {K} {C} plan held back sink sink' old new all = record {
 }
 
 -- where the ends of control that are held were served, those in their place were
-serves_control : {S K C : Type 0} (left : S → Option (List ℕ)) (written : K → Option (List ℕ)) (source_faults : S → ℕ) (sink_faults : K → ℕ) (readings : C → Option (List ℕ)) (plan : Plan) (past : List Row) (names : Option (List ℕ × List ℕ)) (held back : Option (Ends S K C)) (old new : ControlKey → Place (Ends S K C))
-    → HandledLive names held back old new → ControlOf left written source_faults sink_faults readings plan empty past held back
-    → ServesControlAt left written source_faults sink_faults readings plan past names old new
-serves_control left written source_faults sink_faults readings plan past None None None old new handled served = (served, handled)
-serves_control left written source_faults sink_faults readings plan past None None (Some back) old new handled served = absurd handled
-serves_control left written source_faults sink_faults readings plan past None (Some held) back old new handled served = absurd handled
-serves_control left written source_faults sink_faults readings plan past (Some names) None back old new handled served = absurd handled
-serves_control left written source_faults sink_faults readings plan past (Some names) (Some held) None old new handled served = absurd handled
-serves_control left written source_faults sink_faults readings plan past (Some names) (Some held) (Some back) old new handled served =
-    keeps_of (ControlRow left written source_faults sink_faults readings plan empty past) (old (control_key true names)) (new (control_key true names)) held back handled.told handled.kept served
+serves_control : {S K C : Type 0} (left : S → Option (List ℕ)) (written : K → Option (List ℕ)) (source_faults : S → ℕ) (sink_faults : K → ℕ) (readings : C → Option (List ℕ)) (plan : Plan) (segments : List (List Row)) (names : Option (List ℕ × List ℕ)) (held back : Option (Ends S K C)) (old new : ControlKey → Place (Ends S K C))
+    → HandledLive names held back old new → ControlOf left written source_faults sink_faults readings plan segments held back
+    → ServesControlAt left written source_faults sink_faults readings plan segments names old new
+serves_control left written source_faults sink_faults readings plan segments None None None old new handled served = (served, handled)
+serves_control left written source_faults sink_faults readings plan segments None None (Some back) old new handled served = absurd handled
+serves_control left written source_faults sink_faults readings plan segments None (Some held) back old new handled served = absurd handled
+serves_control left written source_faults sink_faults readings plan segments (Some names) None back old new handled served = absurd handled
+serves_control left written source_faults sink_faults readings plan segments (Some names) (Some held) None old new handled served = absurd handled
+serves_control left written source_faults sink_faults readings plan segments (Some names) (Some held) (Some back) old new handled served =
+    keeps_of (ControlRow left written source_faults sink_faults readings plan segments) (old (control_key true names)) (new (control_key true names)) held back handled.told handled.kept served
 
 -- what a session was to the ends is what it was to the places
-serve_of : {S K C : Type 0} (left : S → Option (List ℕ)) (written : K → Option (List ℕ)) (source_faults : S → ℕ) (sink_faults : K → ℕ) (readings : C → Option (List ℕ)) (plan : Plan) (Says : List ℕ → Type 0) (held back : Ready S K C) (sink sink' : K) (past : List Row) (journal_written : Bool) (old new : Book S K C) (status : ℕ)
-    → Laws → HandledPlan plan held back sink sink' old new → IsLivePlayed left written source_faults sink_faults readings plan past held back sink sink' journal_written
-    → IsSummed written sink_faults Says past past journal_written (old.std Out) (new.std Out) status
+serve_of : {S K C : Type 0} (left : S → Option (List ℕ)) (written : K → Option (List ℕ)) (source_faults : S → ℕ) (sink_faults : K → ℕ) (readings : C → Option (List ℕ)) (plan : Plan) (Says : List ℕ → Type 0) (held back : Ready S K C) (segments : List (List Row)) (journal_written : Bool) (old new : Book S K C) (status : ℕ)
+    → Laws → HandledPlan plan held back held.journal back.journal old new → IsLivePlayed left written source_faults sink_faults readings plan segments held back journal_written
+    → IsSummed written sink_faults Says (joined segments) (unbroken segments) journal_written (old.std Out) (new.std Out) status
     → IsServeOf left written source_faults sink_faults readings plan Says old new status
-serve_of {S} {K} {C} left written source_faults sink_faults readings plan Says held back sink sink' past journal_written old new status laws all served summed = record {
-  past = past;
-  legal = served.live.legal;
-  finished = served.live.finished;
+serve_of {S} {K} {C} left written source_faults sink_faults readings plan Says held back segments journal_written old new status laws all served summed = record {
+  segments = segments;
+  session = served.live.session;
   ports = λ k d inside.
       let planned = all.planned in
       let within : k < length held.ports.items = omega (arith, planned, inside) in
       let e = element held.ports.items k within in
       let p = get_or plan.ports k d in
-      let Row : Ends S K C → Ends S K C → Type 0 = PortRow left written source_faults sink_faults readings plan empty past p in
+      let Row : Ends S K C → Ends S K C → Type 0 = PortRow left written source_faults sink_faults readings plan segments p in
       subst (λ (n : ℕ). Keeps Row (ports_in plan old n) (ports_in plan new n)) (number_of_place plan k d inside)
       (keeps_of Row _ _ (get_or held.ports.items k e) (get_or back.ports.items k e) (all.ports.told k e within) (all.ports.kept k e within) (served.live.ports k d e inside));
-  control = serves_control left written source_faults sink_faults readings plan past plan.control held.control back.control old.control new.control all.control served.live.control;
-  ticker = keeps_of (TickerRow readings plan empty past) old.ticker new.ticker held.ticker back.ticker all.ticker.told all.ticker.kept served.live.ticker;
-  reported = reported_of written sink_faults plan Says sink sink' (past ∷ []) past journal_written old new status laws all.journal served.journal_was served.tells
-      (subst (λ (rows : List Row). IsSummed written sink_faults Says rows past journal_written (old.std Out) (new.std Out) status) (sym (append-nil past)) summed);
-  elsewhere = live_off_plan plan held back sink sink' old new all;
+  control = serves_control left written source_faults sink_faults readings plan segments plan.control held.control back.control old.control new.control all.control served.live.control;
+  ticker = keeps_of (TickerRow readings plan segments) old.ticker new.ticker held.ticker back.ticker all.ticker.told all.ticker.kept served.live.ticker;
+  reported = reported_of written sink_faults plan Says held.journal back.journal segments (unbroken segments) journal_written old new status laws all.journal served.journal_was served.tells summed;
+  elsewhere = live_off_plan plan held back held.journal back.journal old new all;
 }
 
 -- all ports of a plan are kept
@@ -346,18 +346,19 @@ live_closes_none {S} {K} {C} left written plan Says Session held back sink sink'
     closes_unplayed true left written plan Says Session old new status one told quiet (live_keeps_all left written plan held sink old new unread) (live_off_plan plan held held sink sink old new unread) (unused_plan plan held sink old new unread)
 
 -- by whether there was an outcome
-pub live_closes : {S K C : Type 0} (left : S → Option (List ℕ)) (written : K → Option (List ℕ)) (source_faults : S → ℕ) (sink_faults : K → ℕ) (readings : C → Option (List ℕ)) (plan : Plan) (Says : List ℕ → Type 0) (held back : Ready S K C) (sink sink' : K) (outcome : Option LiveOutcome) (old mid new : Book S K C) (status : ℕ)
-    → Laws → HandledPlan plan held back sink sink' old new → mid.std ≡ old.std
-    → IfNone outcome ((back ≡ held) × (sink' ≡ sink)) → IfSome outcome (λ o. IsLivePlayed left written source_faults sink_faults readings plan o.core.past held back sink sink' o.journal_written)
-    → IfNone outcome ((status ≡ 1) × (Says memory_line × (new ≡ mid))) → IfSome outcome (λ o. IsSummed written sink_faults Says o.core.past o.core.past o.journal_written (mid.std Out) (new.std Out) status)
+pub live_closes : {S K C : Type 0} (left : S → Option (List ℕ)) (written : K → Option (List ℕ)) (source_faults : S → ℕ) (sink_faults : K → ℕ) (readings : C → Option (List ℕ)) (plan : Plan) (Says : List ℕ → Type 0) (held back : Ready S K C) (outcome : Option Outcome) (old mid new : Book S K C) (status : ℕ)
+    → Laws → HandledPlan plan held back held.journal back.journal old new → mid.std ≡ old.std
+    → IfNone outcome (back ≡ held) → IfSome outcome (λ o. (segments : List (List Row)) × IsOutcomeOf segments o × IsLivePlayed left written source_faults sink_faults readings plan segments held back o.journal_written)
+    → IfNone outcome ((status ≡ 1) × (Says memory_line × (new ≡ mid))) → IfSome outcome (λ o. (segments : List (List Row)) → IsOutcomeOf segments o → IsSummed written sink_faults Says (joined segments) (unbroken segments) o.journal_written (mid.std Out) (new.std Out) status)
     → Closes true left written plan Says (IsServeOf left written source_faults sink_faults readings plan Says old new status) old new status
-live_closes {S} {K} {C} left written source_faults sink_faults readings plan Says held back sink sink' None old mid new status laws all same none served unserved concluded =
-    live_closes_none left written plan Says _ held back sink sink' old new status all none.0 none.1 unserved.0 unserved.1.0
+live_closes {S} {K} {C} left written source_faults sink_faults readings plan Says held back None old mid new status laws all same none served unserved concluded =
+    live_closes_none left written plan Says _ held back held.journal back.journal old new status all none (ap (λ (r : Ready S K C). r.journal) none) unserved.0 unserved.1.0
     (ap (λ (b : Book S K C). b.std Out) unserved.1.1 ∙ ap (λ (p : _ → Place K). p Out) same)
-live_closes {S} {K} {C} left written source_faults sink_faults readings plan Says held back sink sink' (Some o) old mid new status laws all same none served unserved concluded =
-    let summed = subst (λ (p : Place K). IsSummed written sink_faults Says o.core.past o.core.past o.journal_written p (new.std Out) status) (ap (λ (p : _ → Place K). p Out) same) concluded in
-    closes_played true left written sink_faults plan Says _ o.core.past o.core.past o.journal_written old new status summed
-    (serve_of left written source_faults sink_faults readings plan Says held back sink sink' o.core.past o.journal_written old new status laws all served summed)
+live_closes {S} {K} {C} left written source_faults sink_faults readings plan Says held back (Some o) old mid new status laws all same none served unserved concluded =
+    let segments = served.0 in
+    let summed = subst (λ (p : Place K). IsSummed written sink_faults Says (joined segments) (unbroken segments) o.journal_written p (new.std Out) status) (ap (λ (p : _ → Place K). p Out) same) (concluded segments served.1) in
+    closes_played true left written sink_faults plan Says _ (joined segments) (unbroken segments) o.journal_written old new status summed
+    (serve_of left written source_faults sink_faults readings plan Says held back segments o.journal_written old new status laws all served.2 summed)
 
 -- the place of the ticker's clock before its opening, behind that, and behind the keeping of the clock
 pub clock_by : {C : Type 0} (clock clock' : C) (p0 p1 p2 p3 : Place C) → p1 ≡ p0 → IfSome p1.stands (λ t. clock ≡ t) → p2.stands ≡ Some clock' → p3 ≡ p2 → HandledClock clock clock' p0 p3

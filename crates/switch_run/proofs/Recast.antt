@@ -1,5 +1,5 @@
 -- What was done between two books was done between two others that differ only where it doesn't look.
-use Rattle.std.proofs.Common.{◌≡◌, ℕ, inl, inr, List, [], ◌∷◌, Bool, refl, arith, Option, Some, IfSome}
+use Rattle.std.proofs.Common.{◌≡◌, ℕ, inl, inr, List, Bool, refl, arith, Option, Some, IfSome}
 use Rattle.savi_kinds.specs.declared.plan.Plan.{Plan}
 use Rattle.savi_ends.specs.declared.world.Std.{Std}
 use Rattle.savi_ends.specs.declared.world.Std.TheVariants.{Out, Err}
@@ -63,13 +63,12 @@ pub moved_serve : {S K C : Type 0} (left : S → Option (List ℕ)) (written : K
     → IsServeOf left written source_faults sink_faults readings plan Says old new status
     → IsServeOf left written source_faults sink_faults readings plan Says' (record old { faults = f; inputs = i; std = s }) (record new { faults = f'; inputs = i'; std = s' }) status
 moved_serve left written source_faults sink_faults readings plan Says Says' old new f f' i i' s s' status same same' says r = record {
-  past = r.past;
-  legal = r.legal;
-  finished = r.finished;
+  segments = r.segments;
+  session = r.session;
   ports = r.ports;
   control = r.control;
   ticker = r.ticker;
-  reported = moved_reported written sink_faults plan (r.past ∷ []) r.past Says Says' old new f f' i i' s s' status same same' says r.reported;
+  reported = moved_reported written sink_faults plan r.segments (unbroken r.segments) Says Says' old new f f' i i' s s' status same same' says r.reported;
   elsewhere = record { ports = r.elsewhere.ports; control = r.elsewhere.control; outputs = r.elsewhere.outputs };
 }
 

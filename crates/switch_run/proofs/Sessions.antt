@@ -1,8 +1,6 @@
 -- From a session over the ends of control and of ports, and its journal, to what was played.
-use Rattle.std.proofs.Common.{◌≡◌, ℕ, ◌-◌, ◌<◌, ◌≤◌, not, List, [], ◌∷◌, Bool, true, false, length, refl, sym, ap, ◌∙◌, subst, arith, append-nil, Option, Some, None, IfSome, is_some, inl, Vec, Global}
-use Rattle.std.specs.Prelude.{All, reverse}
-use Rattle.std.proofs.lemmas.List.{get_or-reverse, length-reverse}
-use Rattle.hex.specs.Hex.{IsBytes}
+use Rattle.std.proofs.Common.{◌≡◌, ℕ, ◌-◌, ◌≤◌, not, List, [], ◌∷◌, Bool, true, false, length, refl, sym, ap, ◌∙◌, subst, arith, append-nil, Option, Some, None, IfSome, is_some, inl, Vec, Global}
+use Rattle.std.specs.Prelude.{All}
 use Rattle.savi_kinds.specs.declared.entry.How.{How}
 use Rattle.savi_kinds.specs.declared.entry.Who.{Who}
 use Rattle.savi_kinds.specs.declared.plan.Plan.{Plan}
@@ -12,19 +10,16 @@ use Rattle.savi_kinds.specs.ValidPlan.{IsValidPlan, nets_of}
 use Rattle.savi_ends.specs.declared.world.Ends.{Ends}
 use Rattle.savi_ends.specs.Octets.{behind}
 use Rattle.hist_store.specs.Rows.{Row}
-use Rattle.checkpoint.specs.Bases.{Base, empty}
+use Rattle.checkpoint.specs.Bases.{Base}
 use Rattle.savi_history.specs.Journals.{IsAddress}
-use Rattle.savi_history.specs.Legal.{IsLegal}
 use Rattle.savi_history.specs.Shown.{counts_of}
 use Rattle.savi_history.specs.Summary.{capped, summary_of}
 use Rattle.savi_segments.specs.Counted.{summary_by}
 use Rattle.savi_segments.specs.Journals.{journal_of}
 use Rattle.savi_segments.specs.Segments.{AreLegal, base_after, joined}
 use Rattle.cli_lang.specs.Arrivals.{Input}
-use Rattle.savi_core.specs.Machines.{Machine, base_of}
-use Rattle.journal_write.specs.declared.journal.Journal.{Journal}
-use Rattle.journal_write.specs.Buffers.{Buffered}
-use Rattle.journal_write.specs.Written.{HasText, IsSettled, WasGiven}
+use Rattle.savi_core.specs.Machines.{base_of}
+use Rattle.journal_write.specs.Written.{WasGiven}
 use Rattle.port_worker.specs.declared.control_ends.ControlEnds.{ControlEnds}
 use Rattle.port_worker.specs.declared.port_ends.PortEnds.{PortEnds}
 use Rattle.port_worker.specs.declared.session.Ready.{Ready}
@@ -32,10 +27,12 @@ use Rattle.port_worker.specs.ControlServed.{ServesControl}
 use Rattle.port_worker.specs.Journalled.{TookJournal}
 use Rattle.port_worker.specs.Replayed.{HasReplayed}
 use Rattle.port_worker.specs.Served.{ServesEnds}
-use Rattle.port_worker.specs.Told.{TellsOf}
-use Rattle.live_session.specs.LiveSession.{ControlOf, IsLive}
+use Rattle.journal_write.specs.Told.{TellsOf}
+use Rattle.live_session.specs.LiveSession.{ControlOf}
+use Rattle.live_switch.specs.declared.ready.Closed.{Closed}
 use Rattle.live_switch.specs.declared.ready.Ready as live
-use Rattle.switch_run.specs.declared.session.Outcome.{Outcome}
+use Rattle.live_switch.specs.Endings.{HasServed}
+use Rattle.switch_run.specs.declared.outcome.Outcome.{Outcome}
 use Rattle.switch_run.specs.Causes.{TookOrPart}
 use Rattle.switch_run.specs.Live.{IsLivePlayed}
 use Rattle.switch_run.specs.Played.{IsOutcomeOf, IsPlayed}
@@ -50,45 +47,16 @@ CountersSumUp =
 abbrev pub HasAddresses : List PrefixPlan → Type 0
 HasAddresses prefixes = All (λ net. IsAddress (first_of net)) (nets_of prefixes)
 
-pub all_reversed : (rows : List Row) → All (λ r. IsBytes r.octets) rows → All (λ r. IsBytes r.octets) (reverse rows)
-all_reversed rows all k d within =
-    let low : k < length rows = omega (arith, within, length-reverse rows) in
-    subst (λ (r : Row). IsBytes r.octets) (sym (get_or-reverse rows k d low)) (all (length rows - 1 - k) d (omega (arith, low)))
-
 some_segments : (segment : List Row) (before : List (List Row)) → 1 ≤ length (segment ∷ before)
 some_segments segment before = omega arith
 
--- the one history of a switch that nothing came before
-pub one_legal : (plan : Plan) (past : List Row) → IsLegal plan empty past → All (λ r. IsBytes r.octets) past → AreLegal plan (past ∷ [])
-one_legal plan past legal octets = (legal, octets, tt)
-
 -- journals
 
-behind_nothing : (o : Option (List ℕ)) → o ≡ behind o []
-behind_nothing None = refl
-behind_nothing (Some octets) = ap (λ (l : List ℕ). Some l) (sym (append-nil octets))
-
 module _ {K : Type 0} (written : K → Option (List ℕ)) (faults : K → ℕ) where
-  -- nothing was given yet
-  pub none_given : (sink : K) (buffer : Buffered) (journal : Journal K) → buffer.octets ≡ [] → journal ≡ record { sink = sink; buffer = buffer; failed = false } → HasText written faults sink journal []
-  none_given sink buffer journal nothing is =
-      subst (λ (j : Journal K). HasText written faults sink j []) (sym is) (record { took = []; sink = behind_nothing (written sink); all = nothing }, refl)
-
-  settled : (first now : K) (waits text : List ℕ) (failed : Bool) → (failed ≡ false → waits ≡ []) → WasGiven written faults first now waits failed text → WasGiven written faults first now [] failed text
-  settled first now waits text true nothing given = given
-  settled first now waits text false nothing given = subst (λ (l : List ℕ). WasGiven written faults first now l false text) (nothing refl) given
-
   -- what was given without a fault was taken where nothing waits
   pub took_given : (failed : Bool) (text : List ℕ) (old new : K) → WasGiven written faults old new [] failed text → TookOrPart faults written (not failed) text old new
   took_given true text old new given = let rose = given.1 in (omega (arith, rose), given.0)
   took_given false text old new given = (given.0.sink ∙ ap (behind (written old)) (sym (append-nil given.0.took) ∙ given.0.all), given.1)
-
-  pub took_settled : (first sink : K) (journal : Journal K) (failed : Bool) (text : List ℕ) → sink ≡ journal.sink → failed ≡ journal.failed → IsSettled journal → HasText written faults first journal text
-      → TookOrPart faults written (not failed) text first sink
-  took_settled first sink journal failed text sink_is failed_is nothing given =
-      subst (λ (k : K). TookOrPart faults written (not failed) text first k) (sym sink_is)
-      (subst (λ (b : Bool). TookOrPart faults written (not b) text first journal.sink) (sym failed_is)
-      (took_given journal.failed text first journal.sink (settled first journal.sink journal.buffer.octets text journal.failed nothing given)))
 
 -- a journal that was there before a session is there behind it
 pub some_journal : {K : Type 0} (written : K → Option (List ℕ)) (faults : K → ℕ) (plan : Plan) (segments : List (List Row)) (failed : Bool) (old : K) (new : Option K) → TookJournal written faults plan segments failed (Some old) new → is_some new ≡ true
@@ -151,29 +119,39 @@ same_control left written source_faults sink_faults plan segments (Some old) (So
 
 -- a live session
 
--- Its one history was closed in a journal that was begun, and all that waited was written.
-pub served_of : {S K C : Type 0} (left : S → Option (List ℕ)) (written : K → Option (List ℕ)) (source_faults : S → ℕ) (sink_faults : K → ℕ) (readings : C → Option (List ℕ)) (plan : Plan) (prefixes : List PrefixPlan) (rows : List Row) (core : Machine) (old new : live.Ready S K C) (journal journal' : K) (closed : Journal K) (failed : Bool)
-    → IsLive left written source_faults sink_faults readings plan empty core.past old.ports.items new.ports.items old.control new.control old.ticker new.ticker
-    → IsValidPlan plan → core.plan ≡ plan → prefixes ≡ core.plan.prefixes → HasAddresses prefixes → reverse rows ≡ core.past → All (λ r. IsBytes r.octets) rows
-    → journal' ≡ closed.sink → failed ≡ closed.failed → IsSettled closed → HasText written sink_faults journal closed (journal_of core.plan (core.past ∷ []))
-    → IsLivePlayed left written source_faults sink_faults readings plan core.past old new journal journal' (not failed)
-served_of left written source_faults sink_faults readings plan prefixes rows core old new journal journal' closed failed live valid same lent addresses are octets sink_is failed_is nothing text = record {
-  live = live;
-  journal_was =
-      subst (λ (p : Plan). TookOrPart sink_faults written (not failed) (journal_of p (core.past ∷ [])) journal journal') same
-      (took_settled written sink_faults journal journal' closed failed (journal_of core.plan (core.past ∷ [])) sink_is failed_is nothing text);
-  tells = record {
-    valid = valid;
-    addresses = subst HasAddresses (lent ∙ ap (λ (p : Plan). p.prefixes) same) addresses;
-    some = some_segments core.past [];
-    legal = one_legal plan core.past live.legal (subst (All (λ (r : Row). IsBytes r.octets)) are (all_reversed rows octets));
-    journal = inl refl;
-  };
-}
+-- what is left of it, and what was served
+pub served_of : {S K C : Type 0} (left : S → Option (List ℕ)) (written : K → Option (List ℕ)) (source_faults : S → ℕ) (sink_faults : K → ℕ) (readings : C → Option (List ℕ)) (plan : Plan) (prefixes : List PrefixPlan) (old : live.Ready S K C) (closed : Closed S K C) (o : Outcome)
+    → CountersSumUp → IsValidPlan plan → closed.core.plan ≡ plan → prefixes ≡ closed.core.plan.prefixes → HasAddresses prefixes
+    → o ≡ record { core = closed.core; entries = closed.entries; ends = closed.ends; journal_written = not closed.journal_failed }
+    → HasServed left written source_faults sink_faults readings plan old closed
+    → (segments : List (List Row)) × IsOutcomeOf segments o × IsLivePlayed left written source_faults sink_faults readings plan segments old closed.ready o.journal_written
+served_of {S} {K} {C} left written source_faults sink_faults readings plan prefixes old closed o law valid same lent addresses is served =
+    let segments : List (List Row) = closed.core.past ∷ served.before in
+    let legal : AreLegal plan segments = served.live.session.legal in
+    let out : Outcome = record { core = closed.core; entries = closed.entries; ends = closed.ends; journal_written = not closed.journal_failed } in
+    let left_of : IsOutcomeOf segments out = record {
+      tells = served.tells;
+      counted =
+          law plan closed.core.past served.before valid legal
+          ∙ ap (λ (n : ℕ). summary_by n (counts_of (base_after plan served.before) closed.core.past)) (sym served.tells.entries_are)
+          ∙ ap (λ (base : Base). summary_by closed.entries (counts_of base closed.core.past)) (sym served.base);
+    } in
+    let played : IsLivePlayed left written source_faults sink_faults readings plan segments old closed.ready (not closed.journal_failed) = record {
+      live = served.live;
+      journal_was = took_given written sink_faults closed.journal_failed (journal_of plan segments) old.journal closed.ready.journal served.journal;
+      tells = record {
+        valid = valid;
+        addresses = subst HasAddresses (lent ∙ ap (λ (p : Plan). p.prefixes) same) addresses;
+        some = some_segments closed.core.past served.before;
+        legal = legal;
+        journal = inl refl;
+      };
+    } in
+    subst (λ (x : Outcome). (segments : List (List Row)) × IsOutcomeOf segments x × IsLivePlayed left written source_faults sink_faults readings plan segments old closed.ready x.journal_written) (sym is) (segments, left_of, played)
 
-pub same_live : {S K C : Type 0} (left : S → Option (List ℕ)) (written : K → Option (List ℕ)) (source_faults : S → ℕ) (sink_faults : K → ℕ) (readings : C → Option (List ℕ)) (plan : Plan) (past : List Row) (old new : Option (Ends S K C))
-    → ControlOf left written source_faults sink_faults readings plan empty past old new → is_some new ≡ is_some old
-same_live left written source_faults sink_faults readings plan past None None served = refl
-same_live left written source_faults sink_faults readings plan past None (Some new) served = absurd served
-same_live left written source_faults sink_faults readings plan past (Some old) None served = absurd served
-same_live left written source_faults sink_faults readings plan past (Some old) (Some new) served = refl
+pub same_live : {S K C : Type 0} (left : S → Option (List ℕ)) (written : K → Option (List ℕ)) (source_faults : S → ℕ) (sink_faults : K → ℕ) (readings : C → Option (List ℕ)) (plan : Plan) (segments : List (List Row)) (old new : Option (Ends S K C))
+    → ControlOf left written source_faults sink_faults readings plan segments old new → is_some new ≡ is_some old
+same_live left written source_faults sink_faults readings plan segments None None served = refl
+same_live left written source_faults sink_faults readings plan segments None (Some new) served = absurd served
+same_live left written source_faults sink_faults readings plan segments (Some old) None served = absurd served
+same_live left written source_faults sink_faults readings plan segments (Some old) (Some new) served = refl

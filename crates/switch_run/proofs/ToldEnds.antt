@@ -1,5 +1,5 @@
 -- What is told of how passes ended is what the rows say without pauses.
-use Rattle.std.proofs.Common.{◌≡◌, ◌&&◌, ◌||◌, not, if◌then◌else◌, ℕ, List, [], ◌∷◌, ◌++◌, Bool, true, false, length, refl, sym, ap, ◌∙◌, append_assoc, append-nil}
+use Rattle.std.proofs.Common.{◌≡◌, ◌&&◌, ◌||◌, not, if◌then◌else◌, ℕ, List, [], ◌∷◌, ◌++◌, Bool, true, false, refl, ap, ◌∙◌, append-nil}
 use Rattle.std.specs.List.{list_any}
 use Rattle.std.proofs.Math.Bool.{or-false, or_comm}
 use Rattle.std.proofs.lemmas.Bool.{cond-false, cond-true}
@@ -9,8 +9,7 @@ use Rattle.savi_kinds.specs.declared.entry.Act.TheVariants as acts
 use Rattle.savi_kinds.specs.declared.entry.Who.{Who}
 use Rattle.savi_kinds.specs.declared.entry.How.{How}
 use Rattle.hist_store.specs.Rows.{Row}
-use Rattle.savi_history.specs.Endings.{end_told, ends_told, has_failed, has_failed_write, has_malformed, has_paused_end, is_failed_end, is_failed_reason, is_failed_write, is_failed_write_of, is_input, is_malformed_end, is_malformed_reason, is_paused_end, is_paused_reason}
-use Rattle.savi_history.specs.EndLines.{end_line, end_lines, entry_line, paused_line, told_lines}
+use Rattle.savi_history.specs.Endings.{end_told, ends_told, has_failed, has_failed_write, has_malformed, is_failed_end, is_failed_reason, is_failed_write, is_failed_write_of, is_input, is_malformed_end, is_malformed_reason, is_paused_end, is_paused_reason}
 use Rattle.savi_segments.specs.Unbroken.{without_pauses}
 use Rattle.switch_run.specs.Session.{status_of, told_status}
 
@@ -68,27 +67,10 @@ malformed_of (acts.Command stamp at len) is = refl
 malformed_of (acts.Drain port count) is = refl
 malformed_of (acts.End who how) is = ap (list_any (λ (told : Who × How). is_malformed_reason told.1)) (end_said who how is) ∙ or-false (is_malformed_reason how)
 
--- no pause stands among rows without pauses
-
-unpaused_by : (rest : List Row) (row : Row) → has_paused_end rest ≡ false → (b : Bool) → is_paused_end row.entry.act ≡ b → has_paused_end (if not b then row ∷ rest else rest) ≡ false
-unpaused_by rest row before true paused = before
-unpaused_by rest row before false open_end = ap (λ (b : Bool). b || has_paused_end rest) open_end ∙ before
-
-pub never_paused : (rows : List Row) → has_paused_end (without_pauses rows) ≡ false
-never_paused [] = refl
-never_paused (r ∷ past) = unpaused_by (without_pauses past) r (never_paused past) (is_paused_end r.entry.act) refl
-
 -- the status by the ends that are told, of which the first that applies counts
 
 abbrev first_told : Bool → Bool → Bool → ℕ
 first_told f w m = if f then 5 else if w then 6 else if m then 4 else 0
-
-abbrev first_of_all : Bool → Bool → Bool → Bool → ℕ
-first_of_all f w m h = if f then 5 else if w then 6 else if m then 4 else if h then 8 else 0
-
-roomy_first : (f w m h : Bool) → h ≡ false → first_told f w m ≡ first_of_all f w m h
-roomy_first f w m true h = let both : true ≡ false = h in cc
-roomy_first f w m false h = refl
 
 module _ (written : Bool) (ends : List (Who × How)) (rows : List Row) (are : ends ≡ ends_told rows) where
   failed_is : list_any (λ (told : Who × How). is_input told.0 && is_failed_reason told.1) ends ≡ has_failed (without_pauses rows)
@@ -105,32 +87,15 @@ module _ (written : Bool) (ends : List (Who × How)) (rows : List Row) (are : en
       ap (λ (f : Bool). first_told f (list_any (λ (told : Who × How). is_failed_write_of told.0 told.1) ends || not written) (list_any (λ (told : Who × How). is_malformed_reason told.1) ends)) failed_is
       ∙ ap (λ (w : Bool). first_told (has_failed (without_pauses rows)) (w || not written) (list_any (λ (told : Who × How). is_malformed_reason told.1) ends)) failed_write_is
       ∙ ap (λ (m : Bool). first_told (has_failed (without_pauses rows)) (has_failed_write (without_pauses rows) || not written) m) malformed_is
-      ∙ roomy_first (has_failed (without_pauses rows)) (has_failed_write (without_pauses rows) || not written) (has_malformed (without_pauses rows)) (has_paused_end (without_pauses rows)) (never_paused rows)
 
--- lines
+-- the ends that are told of the rows without pauses
 
-told_joined : (ends more : List (Who × How)) → told_lines (ends ++ more) ≡ told_lines ends ++ told_lines more
-told_joined [] more = refl
-told_joined (told ∷ ends) more = ap (λ (l : List ℕ). end_line told.0 told.1 ++ l) (told_joined ends more) ∙ sym (append_assoc (end_line told.0 told.1) (told_lines ends) (told_lines more))
+ends_by : (rest : List Row) (row : Row) (before : List (Who × How)) → before ≡ ends_told rest → (b : Bool) → is_paused_end row.entry.act ≡ b
+    → before ++ end_told row.entry.act ≡ ends_told (if not b then row ∷ rest else rest)
+ends_by rest row before so_far true paused = ap (λ (ends : List (Who × How)). before ++ ends) (pause_untold row.entry.act paused) ∙ append-nil before ∙ so_far
+ends_by rest row before so_far false open_end = ap (λ (ends : List (Who × How)). ends ++ end_told row.entry.act) so_far
 
--- the line of an end that is told is that of its entry
-line_of : (count : ℕ) (act : Act) → is_paused_end act ≡ false → told_lines (end_told act) ≡ entry_line count act
-line_of count (acts.Frame port stamp at len) is = refl
-line_of count (acts.Long port stamp len) is = refl
-line_of count (acts.Tick stamp) is = refl
-line_of count (acts.Command stamp at len) is = refl
-line_of count (acts.Drain port items) is = refl
-line_of count (acts.End who how) is = ap told_lines (end_said who how is) ∙ append-nil (end_line who how) ∙ sym (cond-false (is_paused_reason how) (paused_line count who) (end_line who how) is)
-
-lines_by : (rest : List Row) (row : Row) (before : List ℕ) → before ≡ end_lines rest → (b : Bool) → is_paused_end row.entry.act ≡ b
-    → before ++ told_lines (end_told row.entry.act) ≡ end_lines (if not b then row ∷ rest else rest)
-lines_by rest row before so_far true paused = ap (λ (ends : List (Who × How)). before ++ told_lines ends) (pause_untold row.entry.act paused) ∙ append-nil before ∙ so_far
-lines_by rest row before so_far false open_end =
-    ap (λ (l : List ℕ). before ++ l) (line_of (length rest) row.entry.act open_end) ∙ ap (λ (l : List ℕ). l ++ entry_line (length rest) row.entry.act) so_far
-
--- the lines of the ends that are told are those of the rows without pauses
-pub lines_as_told : (rows : List Row) → told_lines (ends_told rows) ≡ end_lines (without_pauses rows)
-lines_as_told [] = refl
-lines_as_told (r ∷ past) =
-    told_joined (ends_told past) (end_told r.entry.act)
-    ∙ lines_by (without_pauses past) r (told_lines (ends_told past)) (lines_as_told past) (is_paused_end r.entry.act) refl
+-- are those of all rows
+pub ends_as_told : (rows : List Row) → ends_told rows ≡ ends_told (without_pauses rows)
+ends_as_told [] = refl
+ends_as_told (r ∷ past) = ends_by (without_pauses past) r (ends_told past) (ends_as_told past) (is_paused_end r.entry.act) refl

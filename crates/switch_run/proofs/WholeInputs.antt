@@ -1,5 +1,5 @@
 -- What is a whole input isn't malformed too.
-use Rattle.std.proofs.Common.{◌≡◌, ◌≢◌, ℕ, ◌||◌, Bool, true, false, List, [], ◌∷◌, ◌++◌, map, refl, sym, ap, ◌∙◌, subst, ◌⊎◌, inl, inr, Option, Some, None, IfSome, IsSomeAnd}
+use Rattle.std.proofs.Common.{◌≡◌, ℕ, ◌||◌, Bool, true, false, List, [], ◌∷◌, map, refl, sym, ap, ◌∙◌, subst, ◌⊎◌, inl, inr, Option, Some, None, IfSome, IsSomeAnd}
 use Rattle.std.specs.List.{list_any}
 use Rattle.std.proofs.lemmas.List.Folds.{list_any_none}
 use Rattle.savi_kinds.specs.declared.plan.Format.{Format}
@@ -15,7 +15,6 @@ use Rattle.stream_io.specs.Streams as stream
 use Rattle.stream_io.proofs.Uniqueness as streams
 use Rattle.port_reader.specs.Inputs.{AreArrivals, FitsRead, IsReadWhole}
 use Rattle.port_reader.specs.Judging.{EnteredRow}
-use Rattle.port_reader.proofs.Meeting.{ends_as}
 use Rattle.cli_lang.specs.Arrivals.{Line, IsRun, stamped_by}
 use Rattle.cli_lang.specs.Arrivals as control
 use Rattle.cli_lang.proofs.Uniqueness as lines_once
@@ -23,7 +22,7 @@ use Rattle.savi_history.specs.ControlFits.{FitsControl, HasNoQuit}
 use Rattle.savi_history.specs.ControlInputs.{is_quit}
 use Rattle.savi_history.specs.Endings.{is_malformed_reason}
 use Rattle.savi_history.specs.Fits.{Fits, IsWhole}
-use Rattle.live_session.specs.LiveControl.{AreLiveLines}
+use Rattle.control_reader.specs.LiveLines.{AreLiveLines}
 use Rattle.port_worker.specs.ControlServed.{AreLines}
 use Rattle.port_worker.specs.Served.{IsInputOf}
 use Rattle.run_config.specs.Configs.{OfText}
@@ -63,11 +62,9 @@ whole_not_malformed format before after arrivals hows.Paused reason fits whole =
 pub whole_not_entered_malformed : {S C : Type 0} (left : S → Option (List ℕ)) (faults : S → ℕ) (readings : C → Option (List ℕ)) (format : Format) (entered : List Arrival) (how : How) (source source' : S) (clock clock' : C) → is_malformed_reason how ≡ true
     → EnteredRow left faults readings format entered (Some how) source source' clock clock' → IsSomeAnd (left source) (IsWholeInput format) → ⊥
 whole_not_entered_malformed left faults readings format entered how source source' clock clock' reason row whole =
-    let same : row.1 ≡ how = ends_as row.0 row.1 how (not_paused how reason) row.3 in
-    whole_not_malformed format (left source) (left source') (entered ++ row.0) row.1 (ap is_malformed_reason same ∙ reason) row.2.fits whole
-  where
-    not_paused : (how : How) → is_malformed_reason how ≡ true → how ≢ hows.Paused
-    not_paused how reason same = let never : true ≡ false = sym reason ∙ ap is_malformed_reason same in cc
+    let both : Some how ≡ Some row.0 = row.1 in
+    let same : row.0 ≡ how = cc in
+    whole_not_malformed format (left source) (left source') entered row.0 (ap is_malformed_reason same ∙ reason) row.2.fits whole
 
 -- of that of a replay
 pub whole_not_replayed_malformed : (before after : Option (List ℕ)) (arrivals : List Arrival) (how : How) → is_malformed_reason how ≡ true → Fits (AreArrivals Pcap) before after arrivals (Some how) → IsSomeAnd before (IsWholeInput Pcap) → ⊥

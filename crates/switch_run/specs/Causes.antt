@@ -42,7 +42,7 @@ IsOneOf ns n = list_any (λ m. m == n) ns ≡ true
 
 -- the statuses of a run whose session began, but for the read of the configuration that failed
 abbrev pub session_statuses : List ℕ
-session_statuses = 0 ∷ 4 ∷ 5 ∷ 6 ∷ 8 ∷ []
+session_statuses = 0 ∷ 4 ∷ 5 ∷ 6 ∷ []
 
 -- the statuses of a run that wrote nothing to standard output
 abbrev pub quiet_statuses : List ℕ
@@ -54,7 +54,7 @@ unused_statuses = 1 ∷ 2 ∷ 3 ∷ 7 ∷ []
 
 -- all statuses
 abbrev pub statuses : List ℕ
-statuses = 0 ∷ 1 ∷ 2 ∷ 3 ∷ 4 ∷ 5 ∷ 6 ∷ 7 ∷ 8 ∷ []
+statuses = 0 ∷ 1 ∷ 2 ∷ 3 ∷ 4 ∷ 5 ∷ 6 ∷ 7 ∷ []
 
 -- The end that was handed out of a place is the one that is told there, where one is; one is kept there again, and this
 -- holds of both.

@@ -12,8 +12,8 @@ use Rattle.savi_core.specs.Machines.{base_of}
 use Rattle.port_worker.specs.declared.control_ends.ControlEnds.{ControlEnds}
 use Rattle.port_worker.specs.declared.port_ends.PortEnds.{PortEnds}
 use Rattle.port_worker.specs.Served.{ServesEnds}
-use Rattle.port_worker.specs.Told.{TellsOf}
-use Rattle.switch_run.specs.declared.session.Outcome.{Outcome}
+use Rattle.journal_write.specs.Told.{TellsOf}
+use Rattle.switch_run.specs.declared.outcome.Outcome.{Outcome}
 use Rattle.switch_run.specs.Causes.{TookOrPart}
 
 -- The segments of a session of the plan: what they were to the ends of control, where there are any, and of the ports, and

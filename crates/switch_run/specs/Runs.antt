@@ -23,11 +23,10 @@ pub record IsRunOf {S K C : Type 0} (replay : Bool) (left : S → Option (List �
   pub unused : IsOneOf unused_statuses status → IsUnused replay left file old new
   pub inputs : OthersStay old.inputs new.inputs file
 
--- a replay, which doesn't touch the ticker, and has room for every input
+-- a replay, which doesn't touch the ticker
 pub record IsReplayRun {S K C : Type 0} (left : S → Option (List ℕ)) (written : K → Option (List ℕ)) (source_faults : S → ℕ) (sink_faults : K → ℕ) (file : List ℕ) (Says : List ℕ → Type 0) (old new : Book S K C) (status : ℕ) : Type 0 where
   pub run : IsRunOf true left written source_faults file Says (IsSession left written source_faults sink_faults file Says old new status) old new status
   pub ticker : new.ticker ≡ old.ticker
-  pub room : status ≢ 8
 
 -- a live session
 abbrev pub IsServeRun : {S K C : Type 0} → (S → Option (List ℕ)) → (K → Option (List ℕ)) → (S → ℕ) → (K → ℕ) → (C → Option (List ℕ)) → List ℕ → (List ℕ → Type 0) → Book S K C → Book S K C → ℕ → Type 0

@@ -14,8 +14,8 @@ use Rattle.pcap_io.specs.Runs.{Arrive}
 use Rattle.cli_lang.specs.Arrivals as control
 use Rattle.hist_store.specs.Rows.{Row}
 use Rattle.hist_store.specs.JournalTexts.{address_text}
-use Rattle.savi_history.specs.Endings.{has_failed, has_failed_write, has_malformed, has_paused_end, is_failed_reason, is_failed_write_of, is_input, is_malformed_reason}
-use Rattle.savi_history.specs.EndLines.{end_lines}
+use Rattle.savi_history.specs.Endings.{ends_told, has_failed, has_failed_write, has_malformed, is_failed_reason, is_failed_write_of, is_input, is_malformed_reason}
+use Rattle.savi_history.specs.EndLines.{told_lines}
 use Rattle.savi_history.specs.Adverts.{IsGuarded}
 use Rattle.savi_history.specs.Summary.{summary_of, summary_text}
 use Rattle.savi_segments.specs.FirstCome.{AllSegmentsPassedRightly, SegmentsKeepWhoCameFirst}
@@ -30,11 +30,11 @@ use Rattle.port_worker.specs.Served.{IsServed, ServesPorts}
 use Rattle.switch_ports.specs.Named.{control_key}
 use Rattle.switch_run.specs.Causes.{IsUnserved, Keeps, KeepsAll, IsOffPlanSame, TookOrPart, ports_in}
 
--- The status by a history, and by whether the journal and the summary were written: the first that applies of a failed
--- read, a failed write, a malformed input and want of room.
+-- The status by the rows of which ends are told, and by whether the journal and the summary were written: the first that
+-- applies of a failed read, a failed write and a malformed input.
 abbrev pub status_of : Bool → List Row → ℕ
 status_of written past =
-    if has_failed past then 5 else if has_failed_write past || not written then 6 else if has_malformed past then 4 else if has_paused_end past then 8 else 0
+    if has_failed past then 5 else if has_failed_write past || not written then 6 else if has_malformed past then 4 else 0
 
 -- the same by the ends that are told, of which none is a pause
 abbrev pub told_status : Bool → List (Who × How) → ℕ
@@ -64,7 +64,7 @@ pub record IsSummed {K : Type 0} (written : K → Option (List ℕ)) (faults : K
   -- whether the summary was written
   pub summary_written : Bool
   pub summary : Keeps (TookOrPart faults written summary_written (summary_text (summary_of all))) old new
-  pub errors : Says (end_lines told ++ journal_lines journal_written)
+  pub errors : Says (told_lines (ends_told told) ++ journal_lines journal_written)
   pub cause : status ≡ status_of (journal_written && summary_written) told
 
 -- What segments were to the place of control, by the names of the plan, in a run that isn't live. Where it names control's

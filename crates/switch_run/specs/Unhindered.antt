@@ -13,17 +13,12 @@ use Rattle.savi_conf.specs.Answers.{IsAnswer}
 use Rattle.pcapng_io.specs.Runs.{Event, Arrive}
 use Rattle.port_reader.specs.Inputs.{AreArrivals}
 use Rattle.cli_lang.specs.Arrivals.{Line, IsRun}
-use Rattle.hist_store.specs.Rows.{Row}
 use Rattle.savi_history.specs.ControlInputs.{is_quit}
-use Rattle.savi_history.specs.Endings.{has_paused_end}
-use Rattle.savi_history.specs.Limits.{has_room}
 use Rattle.journal_check.specs.Laws.{IsFinishedJournal}
 use Rattle.run_config.specs.Configs.{EndHasFault, OfText}
 use Rattle.run_config.specs.Words.{IsCheck, IsGen, IsLearn, IsReplay, IsServe, IsSplitWords}
 use Rattle.switch_ports.specs.Named.{control_key}
 use Rattle.switch_run.specs.Causes.{HasSomeReadFault, HasSomeWriteFault, ports_in}
-use Rattle.switch_run.specs.Live.{IsServeSession}
-use Rattle.switch_run.specs.Session.{WasTold}
 
 -- an end stands in this place that tells the octets it has left, and this holds of them
 abbrev pub Tells : {X : Type 0} → (X → Option (List ℕ)) → Place X → (List ℕ → Type 0) → Type 0
@@ -63,25 +58,15 @@ pub record IsUnhindered {S K C : Type 0} (replay : Bool) (left : S → Option (L
   pub whole : AreInputsWhole plan
   pub faultless : IsFaultless source_faults sink_faults file old new
 
--- a history came to its plan's limit: no other input has room in it, and a pass was paused for want of room
-pub record IsAtLimit (plan : Plan) (past : List Row) : Type 0 where
-  pub no_room : has_room plan past ≡ false
-  pub paused : has_paused_end past ≡ true
-
--- a run goes through: it answers 0, or 1, before its session, or 8, where this holds
-abbrev pub GoesThrough : Type 0 → ℕ → Type 0
-GoesThrough Limited status = (status ≡ 0) ⊎ ((status ≡ 1) ⊎ ((status ≡ 8) × Limited))
-
--- What a run answers by its words. A replay that nothing hinders answers 0, or 1 before its session, however long it is, and
--- so does learning, which reads the ports alone. A live session goes through, but for a history that came to its limit.
--- Where no count of faults rose and the answer isn't 1, the check of a file answers 0 exactly where its text is the journal
--- of a finished history, and its split exactly where it is a capture of several interfaces up to its end. A load answers 0
--- or 1, or 6 where a write of standard output failed.
-pub record IsComplete {S K C : Type 0} (left : S → Option (List ℕ)) (written : K → Option (List ℕ)) (source_faults : S → ℕ) (sink_faults : K → ℕ) (readings : C → Option (List ℕ)) (words : List (List ℕ)) (old new : Book S K C) (status : ℕ) : Type 0 where
+-- What a run answers by its words. A replay or a live session that nothing hinders answers 0, or 1 before its session,
+-- however long it is, and so does learning, which reads the ports alone. Where no count of faults rose and the answer isn't
+-- 1, the check of a file answers 0 exactly where its text is the journal of a finished history, and its split exactly where
+-- it is a capture of several interfaces up to its end. A load answers 0 or 1, or 6 where a write of standard output failed.
+pub record IsComplete {S K C : Type 0} (left : S → Option (List ℕ)) (source_faults : S → ℕ) (sink_faults : K → ℕ) (words : List (List ℕ)) (old new : Book S K C) (status : ℕ) : Type 0 where
   pub replay : (file : List ℕ) → IsReplay file words → IsUnhindered true left source_faults sink_faults (AreWhole false left old) file old new
       → (status ≡ 0) ⊎ (status ≡ 1)
   pub serve : (file : List ℕ) → IsServe file words → IsUnhindered false left source_faults sink_faults (AreWhole true left old) file old new
-      → GoesThrough ((s : IsServeSession left written source_faults sink_faults readings file (WasTold sink_faults written old new) old new status) × IsAtLimit s.plan s.session.past) status
+      → (status ≡ 0) ⊎ (status ≡ 1)
   pub learn : (file : List ℕ) (window : ℕ) → IsLearn file window words → IsUnhindered true left source_faults sink_faults (ArePortsWhole left old) file old new → (status ≡ 0) ⊎ (status ≡ 1)
   pub check : (file : List ℕ) → IsCheck file words → IsFaultless source_faults sink_faults file old new → status ≢ 1
       → OfText left (old.inputs file) (λ text. (status ≡ 0) ↔ ((entries : ℕ) × IsFinishedJournal text entries))

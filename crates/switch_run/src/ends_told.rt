@@ -1,18 +1,17 @@
 //! What standard error is told at the end of a run.
 
-ghost use Rattle.std.specs.Prelude.{◌≡◌, ◌++◌, reverse};
-ghost use Rattle.savi_history.specs.EndLines.{end_lines, told_lines};
+ghost use Rattle.std.specs.Prelude.{◌≡◌, ◌++◌};
+ghost use Rattle.savi_history.specs.EndLines.{told_lines};
 ghost use Rattle.switch_report.specs.RunLines.{journal_word, write_failed_line};
 ghost use Rattle.switch_run.specs.Concluded.{refusal_line, refusal_status};
 ghost use Rattle.switch_run.specs.Session.{ToldBy, journal_lines};
 
 use crate::top::{CONFIG_FAULT, NO_MEMORY, OPEN_FAULT, READ_FAULT};
-use hist_store::Hist;
 use run_config::Refusal;
 use savi_ends::{Put, Sink};
 use savi_kinds::{How, Who};
 use switch_report::{
-    tell_config, tell_each, tell_ends, tell_memory, tell_unopened, tell_unread, tell_unwritten,
+    tell_config, tell_each, tell_memory, tell_unopened, tell_unread, tell_unwritten,
 };
 
 /// Says why there is no plan. The answer is the status.
@@ -37,26 +36,6 @@ pub fn refuse<K: Sink>(refusal: Refusal, file: &str, errors: &mut K) -> u8
             let _put = tell_config(errors, fault);
             CONFIG_FAULT
         }
-    }
-}
-
-/// Says how the inputs and the outputs ended, and that the journal was not written where that is so.
-pub fn tell_finished<K: Sink>(hist: &Hist, journal_written: bool, errors: &mut K)
-    ensures { ToldBy K.faults K.written errors.old errors.new (end_lines (reverse hist.now.rows) ++ journal_lines journal_written) }
-{
-    if journal_written {
-        let _put = tell_ends(hist, errors);
-    } else {
-        tell_unfinished(hist, errors);
-    }
-}
-
-// Says how the inputs and the outputs ended, and that the journal was not written.
-fn tell_unfinished<K: Sink>(hist: &Hist, errors: &mut K)
-    ensures { ToldBy K.faults K.written errors.old errors.new (end_lines (reverse hist.now.rows) ++ write_failed_line journal_word) }
-{
-    if let Put::Done = tell_ends(hist, errors) {
-        let _put = tell_unwritten(errors, "journal");
     }
 }
 

@@ -5,7 +5,7 @@
 //! configuration says, in legal segments, it is the replay of what the sources of control and of the ports gave to sinks
 //! that may fail, and the journal, the replies, each port's output, the summary, the lines on standard error and the status
 //! are those of these segments, or, of what is written, a front where a write failed (`specs/Session.antt`). A live session,
-//! whose ports are served side by side, has one legal and finished history too, by which each end was served
+//! whose ports are served side by side, has the segments of one history too, by which each end was served
 //! (`specs/Live.antt`). Where a load is asked for, its segments, a plain definition of the seed and the number of packets,
 //! are summed up, and nothing is opened (`specs/Loads.antt`). Where a journal is to be checked, the line on standard output
 //! is the one answer to its text, `good` exactly where the text is the journal of a finished history (`specs/Checks.antt`).
@@ -19,6 +19,7 @@ mod ends_told;
 mod learning;
 mod live;
 mod loads;
+mod outcome;
 mod serving;
 mod session;
 mod splits;
@@ -26,5 +27,5 @@ mod summing;
 mod top;
 
 pub use top::{
-    CONFIG_FAULT, MALFORMED, NO_MEMORY, OPEN_FAULT, READ_FAULT, TOO_LONG, USAGE, WRITE_FAULT, run,
+    CONFIG_FAULT, MALFORMED, NO_MEMORY, OPEN_FAULT, READ_FAULT, USAGE, WRITE_FAULT, run,
 };

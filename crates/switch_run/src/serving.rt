@@ -14,9 +14,9 @@ ghost use Rattle.switch_run.specs.Live.{IsServeOf};
 ghost use Rattle.switch_run.specs.Session.{IsPartUnopened, ToldBy};
 
 use crate::ends_told::refuse;
-use crate::live::serve;
+use crate::live::{Served, serve};
 use crate::session::know_sessions;
-use crate::summing::conclude_live;
+use crate::summing::conclude;
 use crate::top::{NO_MEMORY, OPEN_FAULT};
 use live_switch::Ready;
 use live_turns::Gate;
@@ -121,14 +121,15 @@ where
         ports: held,
         control,
         ticker: world.ticker(),
+        journal: sink,
     };
-    let served = serve(rt, alloc, plan, opened, sink, gate);
+    let Served { ready, outcome } = serve(rt, alloc, plan, opened, gate);
     know_sessions();
-    keep_live(numbers.as_slice(), served.ready.ports, world);
-    keep_live_control(served.ready.control, world);
-    world.keep_ticker(served.ready.ticker);
-    world.keep_output(journal.as_str(), served.journal);
-    conclude_live(served.outcome, world, errors)
+    keep_live(numbers.as_slice(), ready.ports, world);
+    keep_live_control(ready.control, world);
+    world.keep_ticker(ready.ticker);
+    world.keep_output(journal.as_str(), ready.journal);
+    conclude(outcome, world, errors)
 }
 
 // What of a plan is wanted behind the session, which takes the plan: the numbers of its ports and the name of its journal;

@@ -15,9 +15,9 @@ ghost use Rattle.port_worker.specs.Served.{IsSamePort};
 ghost use Rattle.run_config.specs.Configs.{IsBuilt};
 ghost use Rattle.switch_run.specs.Played.{IsOutcomeOf, IsPlayed};
 
+use crate::outcome::Outcome;
 use journal_write::know_addresses;
-use port_worker::{Closed, ControlEnds, EndsTold, PortEnds, Ready, replay_session};
-use savi_core::Core;
+use port_worker::{Closed, ControlEnds, PortEnds, Ready, replay_session};
 use savi_ends::{Clock, Sink, Source};
 use savi_kinds::Plan;
 use savi_segments::{
@@ -25,19 +25,6 @@ use savi_segments::{
     segments_pass_where_their_source_is_live,
 };
 use std::alloc::Global;
-
-/// What is left of a replay, and what became of its journal.
-#[derive(Drop)]
-pub struct Outcome {
-    /// The switch with the newest segment.
-    pub core: Core,
-    /// How many entries all segments have. The number stays at 2^64 - 1.
-    pub entries: u64,
-    /// How passes ended for good, in order.
-    pub ends: EndsTold,
-    /// Whether the journal was written.
-    pub journal_written: bool,
-}
 
 /// The ends, given back, and the outcome, unless there was no memory.
 pub struct Played<S, K, C> {

@@ -1,10 +1,9 @@
 //! The end of a run: its summary, its lines on standard error and its status.
 
-ghost use Rattle.std.specs.Prelude.{◌≡◌, IfNone, IfSome, List, reverse};
+ghost use Rattle.std.specs.Prelude.{◌≡◌, IfNone, IfSome, List};
 ghost use Rattle.hist_store.specs.Rows.{Row};
 ghost use Rattle.savi_ends.specs.declared.world.Std.{Std};
 ghost use Rattle.savi_ends.specs.Places.{IsReady, OthersStay};
-ghost use Rattle.checkpoint.specs.Bases.{empty};
 ghost use Rattle.savi_history.specs.Shown.{counts_of};
 ghost use Rattle.savi_history.specs.Summary.{summary_text};
 ghost use Rattle.savi_segments.specs.Counted.{all_dropped, summary_by};
@@ -15,26 +14,22 @@ ghost use Rattle.switch_report.specs.Sums.{sum_of};
 ghost use Rattle.switch_report.specs.RunLines.{memory_line};
 ghost use Rattle.switch_run.specs.Causes.{Keeps, TookOrPart};
 ghost use Rattle.switch_run.specs.Played.{IsOutcomeOf};
-ghost use Rattle.switch_run.specs.Session.{IsSummed, ToldBy, status_of, told_status};
+ghost use Rattle.switch_run.specs.Session.{IsSummed, ToldBy, told_status};
 
-use crate::ends_told::{tell_finished, tell_told};
-use crate::live::LiveOutcome;
-use crate::session::Outcome;
-use crate::top::{MALFORMED, NO_MEMORY, READ_FAULT, TOO_LONG, WRITE_FAULT};
-use hist_store::Hist;
+use crate::ends_told::tell_told;
+use crate::outcome::Outcome;
+use crate::top::{MALFORMED, NO_MEMORY, READ_FAULT, WRITE_FAULT};
 use savi_core::Core;
 use savi_ends::{Put, Sink, Std, World};
 use savi_kinds::{How, Who};
-use savi_segments::counts_sum_segments_up;
 use switch_report::{
-    Summary, has_failed, has_failed_write, has_malformed, has_paused_end, put_summary, tell_memory,
-    told_failed, told_failed_write, told_malformed,
+    Summary, put_summary, tell_memory, told_failed, told_failed_write, told_malformed,
 };
 
 /// The counters of rules, which stand in front of the others.
 const RULES: u32 = 23;
 
-/// Writes the summary of a replay, tells standard error how it ended, and answers the status. `None` is that there was no
+/// Writes the summary of a session, tells standard error how it ended, and answers the status. `None` is that there was no
 /// memory.
 pub fn conclude<W: World>(outcome: Option<Outcome>, world: &mut W, errors: &mut W::K) -> u8
     requires { IsReady (λ k. W.K.faults k ≡ 0) ((W.book world.old).std Std.Out) }
@@ -51,27 +46,6 @@ pub fn conclude<W: World>(outcome: Option<Outcome>, world: &mut W, errors: &mut 
     let summary_written = write_summary(sum_up(&outcome.core, outcome.entries), world);
     tell_told(outcome.ends.as_slice(), journal_written, errors);
     status_told(outcome.ends.as_slice(), journal_written && summary_written)
-}
-
-/// The same of a live session, whose one history is stored.
-pub fn conclude_live<W: World>(outcome: Option<LiveOutcome>, world: &mut W, errors: &mut W::K) -> u8
-    requires out { IsReady (λ k. W.K.faults k ≡ 0) ((W.book world.old).std Std.Out) }
-    requires base { IfSome outcome (λ o. base_of o.core ≡ empty) }
-    ensures none { IfNone outcome ((result ≡ 1) × (ToldBy W.K.faults W.K.written errors.old errors.new memory_line × (W.book world.new ≡ W.book world.old))) }
-    ensures some { IfSome outcome (λ o. IsSummed W.K.written W.K.faults (ToldBy W.K.faults W.K.written errors.old errors.new) o.core.past o.core.past o.journal_written ((W.book world.old).std Std.Out) ((W.book world.new).std Std.Out) result) }
-    ensures others { OthersStay (W.book world.old).std (W.book world.new).std Std.Out }
-    ensures rest { W.book world.new ≡ record (W.book world.old) { std = (W.book world.new).std } }
-{
-    let Some(outcome) = outcome else {
-        let _put = tell_memory(errors);
-        return NO_MEMORY;
-    };
-    counts_sum_segments_up();
-    let journal_written = outcome.journal_written;
-    let history = outcome.core.history();
-    let summary_written = write_summary(sum_up(&outcome.core, history.len()), world);
-    tell_finished(history, journal_written, errors);
-    status_by(history, journal_written && summary_written)
 }
 
 /// The summary of so many entries by the counters of a switch. O(1).
@@ -102,7 +76,7 @@ fn all_dropped(core: &Core) -> u64
     dropped
 }
 
-// The status of a replay by how its passes ended for good, and by whether all was written.
+// The status by how passes ended for good, and by whether all was written.
 fn status_told(ends: &[(Who, How)], written: bool) -> u8
     ensures { result ≡ told_status written ends.now }
 {
@@ -112,23 +86,6 @@ fn status_told(ends: &[(Who, How)], written: bool) -> u8
         WRITE_FAULT
     } else if told_malformed(ends) {
         MALFORMED
-    } else {
-        0
-    }
-}
-
-// The status of the history of a live session, and of whether all was written.
-fn status_by(hist: &Hist, written: bool) -> u8
-    ensures { result ≡ status_of written (reverse hist.now.rows) }
-{
-    if has_failed(hist) {
-        READ_FAULT
-    } else if has_failed_write(hist) || !written {
-        WRITE_FAULT
-    } else if has_malformed(hist) {
-        MALFORMED
-    } else if has_paused_end(hist) {
-        TOO_LONG
     } else {
         0
     }

@@ -51,23 +51,20 @@ pub const READ_FAULT: u8 = 5;
 pub const WRITE_FAULT: u8 = 6;
 /// Something could not be opened.
 pub const OPEN_FAULT: u8 = 7;
-/// There was no room in the history for what came in.
-pub const TOO_LONG: u8 = 8;
 
 /// Does what the words behind the program's name ask for, over this world, and answers the status.
 ///
 /// `replay FILE` replays the captures of the ports of the plan that the configuration FILE says, and takes the commands of
 /// control, where the plan names it; no capture is too long. Statuses 0, 4 and 6 say that the session began, and 5 too,
-/// unless a read of the configuration failed; the other statuses have their causes, and 8 doesn't come. `check FILE` writes
+/// unless a read of the configuration failed; the other statuses have their causes. `check FILE` writes
 /// what the text of FILE is, as a journal: the status is 0 where it is the journal of a finished history, 4 where it isn't,
 /// and 1, 5, 6 or 7 by its cause. `gen SEED FRAMES` replays a load in memory, and sums it up: the status is 0, 1 or 6.
 /// `split FILE` splits a capture of several interfaces into one for each: the status is 0, or 4 where FILE is malformed, and
 /// 1, 5, 6 or 7 by its cause. `learn FILE MS` reads the captures as a replay does, and writes what they say of routers, with
 /// a window of MS: its statuses are those of `replay`.
 ///
-/// `serve FILE` runs a live session over the ports, the control and the ticker of the plan that FILE says, and its statuses
-/// are those of `replay`, and 8, where the history had no room for what came in. It may go on for good; nothing else waits.
-/// The gate sees each turn of its workers.
+/// `serve FILE` runs a live session over the ports, the control and the ticker of the plan that FILE says, however long it is;
+/// its statuses are those of `replay`. It may go on for good; nothing else waits. The gate sees each turn of its workers.
 ///
 /// Each end is opened once: an opening that fails isn't tried again, and ends the run with status 7.
 pub fn run<R: Threads + Wait + Sync, W: World, G: Gate>(
@@ -93,7 +90,6 @@ where
     ensures still { result ≢ 7 → (W.book world.new).faults ≡ (W.book world.old).faults }
     ensures unopened { (file : List ℕ) → IsReplay file (map string_bytes words.now) → result ≡ 7 → IsUnopened true W.S.left W.S.faults file (WasTold W.K.faults W.K.written (W.book world.old) (W.book world.new)) (W.book world.old) (W.book world.new) }
     ensures session { (file : List ℕ) → IsReplay file (map string_bytes words.now) → IsOneOf session_statuses result → IsFileUnread W.S.left W.S.faults file (WasTold W.K.faults W.K.written (W.book world.old) (W.book world.new)) (W.book world.old) (W.book world.new) result ⊎ IsSession W.S.left W.K.written W.S.faults W.K.faults file (WasTold W.K.faults W.K.written (W.book world.old) (W.book world.new)) (W.book world.old) (W.book world.new) result }
-    ensures room { (file : List ℕ) → IsReplay file (map string_bytes words.now) → result ≢ 8 }
     ensures read { (file : List ℕ) → IsReplay file (map string_bytes words.now) → result ≡ 5 → HasSomeReadFault W.S.faults file (W.book world.new) }
     ensures write { (file : List ℕ) → IsReplay file (map string_bytes words.now) → result ≡ 6 → HasSomeWriteFault W.K.faults (W.book world.new) }
     ensures quiet { IsOneOf quiet_statuses result → (W.book world.new).std Std.Out ≡ (W.book world.old).std Std.Out }
@@ -108,7 +104,7 @@ where
     ensures learned_write { (file : List ℕ) (window : ℕ) → IsLearn file window (map string_bytes words.now) → result ≡ 6 → EndHasFault W.K.faults ((W.book world.new).std Std.Out) }
     ensures load { (seed frames : ℕ) → IsGen seed frames (map string_bytes words.now) → IsLoadRun W.K.written W.K.faults seed frames (WasTold W.K.faults W.K.written (W.book world.old) (W.book world.new)) (W.book world.old) (W.book world.new) result }
     ensures split { (file : List ℕ) → IsSplitWords file (map string_bytes words.now) → IsCaptureRun W.S.left W.K.written W.S.faults W.K.faults file (WasTold W.K.faults W.K.written (W.book world.old) (W.book world.new)) (W.book world.old) (W.book world.new) result }
-    ensures complete { IsComplete W.S.left W.K.written W.S.faults W.K.faults W.C.readings (map string_bytes words.now) (W.book world.old) (W.book world.new) result }
+    ensures complete { IsComplete W.S.left W.S.faults W.K.faults (map string_bytes words.now) (W.book world.old) (W.book world.new) result }
 {
     let mut errors = world.std(Std::Err);
     let status = perform(rt, alloc, words, world, &mut errors, gate);
@@ -183,7 +179,6 @@ fn replay_plan<W: World>(alloc: Global, plan: Plan, world: &mut W, errors: &mut 
     ensures open { result ≡ 7 → RoseOnce (W.book world.old).faults (W.book world.new).faults }
     ensures still { result ≢ 7 → (W.book world.new).faults ≡ (W.book world.old).faults }
     ensures unopened { result ≡ 7 → IsPartUnopened false plan (ToldBy W.K.faults W.K.written errors.old errors.new) (W.book world.old) (W.book world.new) }
-    ensures room { result ≡ 8 → ⊥ }
     ensures session { IsOneOf session_statuses result → IsSessionOf W.S.left W.K.written W.S.faults W.K.faults plan (ToldBy W.K.faults W.K.written errors.old errors.new) (W.book world.old) (W.book world.new) result }
     ensures quiet { IsOneOf quiet_statuses result → (W.book world.new).std Std.Out ≡ (W.book world.old).std Std.Out }
     ensures unused { IsOneOf unused_statuses result → IsUnusedOf false plan (W.book world.old) (W.book world.new) }

@@ -1,9 +1,11 @@
 //! The machine's clock beside a time of day that steps.
 
 use anyhow::bail;
-use port_ends::{ClockStart, MachineClock};
+use port_ends::{MachineClock, Pauses};
 use savi_ends::Clock;
+use std::alloc::Global;
 use std::io;
+use std::sync::Arc;
 use std::sync::atomic::{AtomicU64, Ordering};
 use std::time::{self, Duration};
 
@@ -40,22 +42,35 @@ impl time::Clock for HandClocks {
 
 /// Prints what a clock that begins at the first setting of two others reads at each later one, and again by a wait; then
 /// what a clock of the same start reads that is first read at the last one. A setting is the time of day, `/`, and the
-/// monotonic clock, in ms.
-pub fn print_clocks(rt: &impl Print, rest: &str) -> anyhow::Result<()> {
+/// monotonic clock, in ms. Behind the word `waits` the inputs wait, until behind `goes`.
+pub fn print_clocks(rt: &impl Print, alloc: Global, rest: &str) -> anyhow::Result<()> {
     let (first, settings) = rest.split_once(' ').unwrap_or((rest, ""));
     let clocks = HandClocks {
         time_of_day: AtomicU64::new(0),
         monotonic: AtomicU64::new(0),
     };
     clocks.set(first)?;
-    let start = ClockStart::read(&clocks);
-    let mut early = MachineClock::new(&clocks, start);
+    let pauses = Pauses::make(&clocks, alloc)?;
+    let mut early = clock_of(&clocks, &pauses)?;
     for setting in settings.split_whitespace() {
+        if setting == "waits" || setting == "goes" {
+            let _now = pauses.tell(&clocks, setting == "waits");
+            continue;
+        }
         clocks.set(setting)?;
         let (reading, later) = (early.now(), early.wait());
         print!(rt; " {reading} {later},")?;
     }
-    let mut late = MachineClock::new(&clocks, start);
+    let mut late = clock_of(&clocks, &pauses)?;
     println!(rt; " {}", late.now())?;
     Ok(())
+}
+
+// A clock over these two, which stands in these pauses.
+fn clock_of<'a>(
+    clocks: &'a HandClocks,
+    pauses: &Arc<Pauses, Global>,
+) -> anyhow::Result<MachineClock<&'a HandClocks>> {
+    let shared = Arc::try_clone(pauses)?;
+    Ok(MachineClock::new(clocks, pauses.start(), Some(shared)))
 }

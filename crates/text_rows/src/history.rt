@@ -1,53 +1,41 @@
 //! The ends of a short history, and what is said of them.
 
-ghost use Rattle.std.specs.Prelude.{◌≡◌, IfOk};
-
 use crate::input::{number_of, port_of};
 use crate::writers::put_word;
 use anyhow::bail;
-use hist_store::Hist;
 use savi_ends::MemSink;
-use savi_kinds::{Act, Entry, How, PortSet, Who};
-use std::alloc::{AllocError, Global};
+use savi_kinds::{How, Who};
+use std::alloc::Global;
 use switch_report::{
-    Summary, has_failed, has_failed_write, has_malformed, has_paused_end, put_summary, tell_ends,
+    Summary, put_summary, tell_each, told_failed, told_failed_write, told_malformed,
 };
-
-/// The most ends of a history.
-const ENDS_MOST: u64 = 8;
 
 /// Room for what is said of them.
 const ROOM: usize = 128;
 
-/// A history of ends.
+/// The ends of a history, in order.
 #[derive(Drop)]
 pub struct History {
-    hist: Hist,
-    ghost room: { hist.entry_room ≡ 8 },
+    ends: Vec<(Who, How)>,
 }
 
 impl History {
     /// An empty history.
-    pub fn new(alloc: Global) -> Result<History, AllocError> {
-        Ok(History {
-            hist: Hist::make(alloc, ENDS_MOST, 0)?,
-        })
+    pub fn new(alloc: Global) -> History {
+        History {
+            ends: Vec::new(alloc),
+        }
     }
 
     /// The history is empty.
-    pub fn begin(&mut self, alloc: Global) -> Result<(), AllocError> {
-        *self = History::new(alloc)?;
-        Ok(())
+    pub fn begin(&mut self, alloc: Global) {
+        *self = History::new(alloc);
     }
 
     /// A pass ends: which one, and how.
     pub fn end(&mut self, text: &str) -> anyhow::Result<()> {
         let (who, rest) = who_of(text)?;
-        let how = how_of(rest)?;
-        if self.hist.len() >= ENDS_MOST || self.hist.held() > 0 {
-            bail!("no room: {text}");
-        }
-        self.hist.append(end_entry(who, how), &[]);
+        self.ends.push((who, how_of(rest)?))?;
         Ok(())
     }
 
@@ -55,24 +43,20 @@ impl History {
     pub fn print_ends(&self, rt: &impl Print, alloc: Global, write: &str) -> anyhow::Result<()> {
         let fails = [write.parse::<u64>()?].to_vec(alloc)?;
         let mut sink = MemSink::make(alloc, ROOM, fails)?;
-        let put = tell_ends(&self.hist, &mut sink);
+        let put = tell_each(self.ends.as_slice(), &mut sink);
         println!(rt; " {} [{}]", put_word(put), str::from_utf8(sink.written())?)?;
         Ok(())
     }
 
-    /// Prints whether an input was malformed, whether a read of one failed, whether a write of an output failed, whether
-    /// a pass was paused, and the summary of so many entries.
+    /// Prints whether an input was malformed, whether a read of one failed, whether a write of an output failed, and the
+    /// summary of so many entries.
     pub fn print_kinds(&self, rt: &impl Print) -> anyhow::Result<()> {
-        let hist = &self.hist;
-        if hist.len() > ENDS_MOST {
-            bail!("too long a history");
-        }
-        print!(rt; " malformed {}", has_malformed(hist))?;
-        print!(rt; " failed {}", has_failed(hist))?;
-        print!(rt; " failed write {}", has_failed_write(hist))?;
-        print!(rt; " paused {}", has_paused_end(hist))?;
+        let ends = self.ends.as_slice();
+        print!(rt; " malformed {}", told_malformed(ends))?;
+        print!(rt; " failed {}", told_failed(ends))?;
+        print!(rt; " failed write {}", told_failed_write(ends))?;
         let summary = put_summary(Summary {
-            entries: hist.len(),
+            entries: ends.len() as u64,
             frames: 0,
             passed: 0,
             dropped: 0,
@@ -82,22 +66,6 @@ impl History {
         });
         print!(rt; " {}", str::from_utf8(summary.as_slice())?)?;
         Ok(())
-    }
-}
-
-// The entry of an end, as the only pass of its history makes it.
-fn end_entry(who: Who, how: How) -> Entry
-    ensures { result.act ≡ Act.End who how }
-{
-    Entry {
-        by: 0,
-        moment: 0,
-        act: Act::End { who, how },
-        verdict: None,
-        outs: PortSet::empty(),
-        cuts: PortSet::empty(),
-        probes: 0,
-        lost: 0,
     }
 }
 

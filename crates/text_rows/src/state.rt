@@ -29,7 +29,7 @@ impl State {
         Ok(State {
             input: Input::new(alloc),
             report: Report::new(alloc)?,
-            history: History::new(alloc)?,
+            history: History::new(alloc),
         })
     }
 
@@ -44,7 +44,10 @@ impl State {
             "input" => self.input.set(alloc, rest),
             "add" => self.input.add(alloc, rest),
             "report" => self.report.begin(alloc, rest),
-            "history" => Ok(self.history.begin(alloc)?),
+            "history" => {
+                self.history.begin(alloc);
+                Ok(())
+            }
             "end" => self.history.end(rest),
             _ => {
                 print!(rt; "{line}:")?;
@@ -93,7 +96,7 @@ fn print_alone(rt: &impl Print, alloc: Global, word: &str, rest: &str) -> anyhow
         "clock" => print_clock(rt, alloc, rest),
         "world" => print_world(rt, alloc, rest),
         "load" => print_load(rt, alloc, rest),
-        "clocks" => print_clocks(rt, rest),
+        "clocks" => print_clocks(rt, alloc, rest),
         _ => bail!("no line of the input: {word}"),
     }
 }

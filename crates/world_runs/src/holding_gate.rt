@@ -81,4 +81,6 @@ impl Gate for HoldingGate {
             }
         }
     }
+
+    fn inputs_wait(&self, _is_so: bool) {}
 }

@@ -12,7 +12,7 @@ use std::alloc::{AllocError, Global};
 /// Prints the status, what standard error and standard output were told, what was written at each port, the replies, where
 /// control has an input, the journal, and what was written at each other output; of a load the digests of what was written
 /// at the ports and of the journal; of a live session, whose entries come in the order of its workers, the ticks of the
-/// journal, the end of each pass, and what a check says of it.
+/// journal, how each pass ended for good, and what a check says of it.
 pub fn print_left(
     rt: &impl Print,
     alloc: Global,
@@ -94,8 +94,8 @@ fn print_outputs(
     Ok(())
 }
 
-// The ticks of each journal, each as its entry is without its number; how each pass ended, in the order of the passes; and
-// whether the check of the journal says that it is good.
+// The ticks of each journal, each as its entry is without its number; how each pass ended for good, in the order of the
+// passes; and whether the check of the journal says that it is good.
 fn print_history(rt: &impl Print, alloc: Global, left: &RecordingWorld) -> anyhow::Result<()> {
     for (_, sink) in left.world.outputs.as_slice() {
         let text = text_of(alloc, sink)?;
@@ -119,12 +119,13 @@ fn print_history(rt: &impl Print, alloc: Global, left: &RecordingWorld) -> anyho
     Ok(())
 }
 
-// The ends that a pass has in a journal, a line each.
+// How a pass ended for good in a journal: a pause is no such end.
 fn print_ends(rt: &impl Print, journal: &str, pass: u32) -> anyhow::Result<()> {
     for line in journal.lines() {
         let (_, entry) = line.split_once(' ').unwrap_or(("", line));
-        if let Some(end) = end_by(entry, pass) {
-            println!(rt; "{end}")?;
+        match end_by(entry, pass) {
+            Some(end) if !end.ends_with(" paused") => println!(rt; "{end}")?,
+            _ => {}
         }
     }
     Ok(())

@@ -10,8 +10,10 @@ use savi_ends::{Ends, MemClock, MemEnds, MemSink, MemSource, MemWorld};
 use savi_kinds::{Port, Text};
 use std::alloc::{AllocError, Global};
 
-/// Room for what is written at a port or by control, or of a journal, and the same where the inputs are those of a load.
+/// Room for what is written at a port or by control, for a journal, and for either where the inputs are those of a load.
 const FILE_ROOM: usize = 8_192;
+
+const JOURNAL_ROOM: usize = 65_536;
 
 const LOAD_ROOM: usize = 2_097_152;
 
@@ -42,9 +44,18 @@ pub fn stage(alloc: Global, scene: &Scene) -> anyhow::Result<RecordingWorld> {
     })
 }
 
-// The room for what is written at a port or by control, or of a journal.
+// The room for what is written at a port or by control.
 fn room_of(scene: &Scene) -> usize {
     if scene.is_load { LOAD_ROOM } else { FILE_ROOM }
+}
+
+// The room for a journal.
+fn journal_room_of(scene: &Scene) -> usize {
+    if scene.is_load {
+        LOAD_ROOM
+    } else {
+        JOURNAL_ROOM
+    }
 }
 
 // The number of the call of this kind that fails, as a list.
@@ -68,7 +79,8 @@ fn plan_of(alloc: Global, scene: &Scene) -> Result<Vec<(Text, Option<MemSource>)
 // The journal, and behind it the outputs that a scene names.
 fn outputs_of(alloc: Global, scene: &Scene) -> Result<Vec<(Text, Option<MemSink>)>, AllocError> {
     let mut outputs = Vec::new(alloc);
-    let journal = MemSink::make(alloc, room_of(scene), fault_of(alloc, scene, "journal")?)?;
+    let room = journal_room_of(scene);
+    let journal = MemSink::make(alloc, room, fault_of(alloc, scene, "journal")?)?;
     outputs.push((Text::new(String::from_str(alloc, JOURNAL)?), Some(journal)))?;
     for name in &scene.outputs {
         let write = format!(in alloc; "write {name}")?;

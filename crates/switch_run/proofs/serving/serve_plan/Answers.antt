@@ -301,7 +301,7 @@ pub keep_live-requires-2-clause-few : goal.keep_live-requires-2-clause-few
 keep_live-requires-2-clause-few g c κs within =
     let all : length c.open_live.new.held.items ≡ length c.args.plan.ports = c.open_live.ensures.all c.in_default-open_live.is ∙ ap length c.as_slice.ensures in
     let count = numbers_count c.args.plan c.as_slice-2.result.now (ap (map number_of) c.as_slice-2.ensures.value ∙ c.in-Ok.ensures.numbers) in
-    omega (arith, all, count, c.serve-served.ensures.ports, c.serve-served.result.ready.ports.ok.0, c.open_live.new.held.ok.0)
+    omega (arith, all, count, c.serve-ready.ensures.ports, c.serve-ready.result.ready.ports.ok.0, c.open_live.new.held.ok.0)
 
 pub keep_live-requires-2-clause-out : goal.keep_live-requires-2-clause-out
 keep_live-requires-2-clause-out g c κs within =
@@ -312,9 +312,9 @@ keep_live-requires-2-clause-out g c κs within =
     let held = c.open_live.new.held.items in
     let old = (g.W.World.book c.args.world.now).ports in
     let mid = (g.W.World.book c.open_live.new.world).ports in
-    live_out (BothFresh g.W.S.Source.faults g.W.K.Sink.faults) c.args.plan.ports (numbers_of c.args.plan.ports) _ held c.serve-served.result.ready.ports.items old mid _
+    live_out (BothFresh g.W.S.Source.faults g.W.K.Sink.faults) c.args.plan.ports (numbers_of c.args.plan.ports) _ held c.serve-ready.result.ready.ports.items old mid _
     (subst (λ (l : List PortPlan). AreOpened {S = S} {K = K} {C = C} (BothFresh g.W.S.Source.faults g.W.K.Sink.faults) (numbers_of l) (named_by l old) (named_by l mid) held) c.as_slice.ensures c.open_live.ensures.opened)
-    (omega (arith, c.serve-served.ensures.ports, c.serve-served.result.ready.ports.ok.0, c.open_live.new.held.ok.0)) (ap (map number_of) c.as_slice-2.ensures.value ∙ c.in-Ok.ensures.numbers)
+    (omega (arith, c.serve-ready.ensures.ports, c.serve-ready.result.ready.ports.ok.0, c.open_live.new.held.ok.0)) (ap (map number_of) c.as_slice-2.ensures.value ∙ c.in-Ok.ensures.numbers)
     (ap ports c.ticker.ensures.rest ∙ ap ports c.output.ensures.rest ∙ ap ports c.open_live_control.ensures.rest)
 
 pub keep_live_control-requires-2-clause-out : goal.keep_live_control-requires-2-clause-out
@@ -323,7 +323,7 @@ keep_live_control-requires-2-clause-out g c κs within =
     let K = g.row.W-K.Denot in
     let C = g.row.W-C.Denot in
     let control : Book S K C → ControlKey → Place (Ends S K C) = λ b. b.control in
-    live_control_out (BothFresh g.W.S.Source.faults g.W.K.Sink.faults) c.args.plan.control c.in-Ok-open_live_control.control c.serve-served.result.ready.control _ (g.W.World.book c.open_live_control.new.world).control _ c.in-Ok-open_live_control.ensures.opened c.serve-served.ensures.control
+    live_control_out (BothFresh g.W.S.Source.faults g.W.K.Sink.faults) c.args.plan.control c.in-Ok-open_live_control.control c.serve-ready.result.ready.control _ (g.W.World.book c.open_live_control.new.world).control _ c.in-Ok-open_live_control.ensures.opened c.serve-ready.ensures.control
     (ap control c.keep_live-2.ensures.rest ∙ ap control c.ticker.ensures.rest ∙ ap control c.output.ensures.rest)
 
 std_before : (g : given.Over) (c : goal.After-drop-numbers-2 g) → (g.W.World.book c.keep_output.new.self).std ≡ (g.W.World.book c.args.world.now).std
@@ -334,7 +334,7 @@ std_before g c =
     let std : Book S K C → Std → Place K = λ b. b.std in
     ap std c.keep_output.ensures.rest ∙ ap std c.keep_ticker.ensures.rest ∙ ap std c.keep_live_control-2.ensures.rest ∙ ap std c.keep_live-2.ensures.rest ∙ ap std c.ticker.ensures.rest ∙ ap std c.output.ensures.rest ∙ ap std c.open_live_control.ensures.rest ∙ ap std c.open_live.ensures.rest
 
-handled_plan : (g : given.Over) (c : goal.After-drop-numbers-2 g) → HandledPlan c.args.plan (record { ports = c.open_live.new.held; control = c.in-Ok-open_live_control.control; ticker = c.ticker.result }) c.serve-served.result.ready c.in-Ok-output.sink c.serve-served.result.journal (g.W.World.book c.args.world.now) (g.W.World.book c.conclude_live.new.world)
+handled_plan : (g : given.Over) (c : goal.After-drop-numbers-2 g) → HandledPlan c.args.plan (record { ports = c.open_live.new.held; control = c.in-Ok-open_live_control.control; ticker = c.ticker.result; journal = c.in-Ok-output.sink }) c.serve-ready.result.ready c.in-Ok-output.sink c.serve-ready.result.ready.journal (g.W.World.book c.args.world.now) (g.W.World.book c.conclude.new.world)
 handled_plan g c =
     let S = g.row.W-S.Denot in
     let K = g.row.W-K.Denot in
@@ -348,39 +348,39 @@ handled_plan g c =
     let mid = (g.W.World.book c.open_live.new.world).ports in
     record {
       planned = c.open_live.ensures.all c.in_default-open_live.is ∙ ap length c.as_slice.ensures;
-      ports = live_handled (BothFresh g.W.S.Source.faults g.W.K.Sink.faults) c.args.plan.ports (numbers_of c.args.plan.ports) _ held c.serve-served.result.ready.ports.items old mid (ports (g.W.World.book c.ticker.new.self)) (ports (g.W.World.book c.keep_live-2.new.world)) _
+      ports = live_handled (BothFresh g.W.S.Source.faults g.W.K.Sink.faults) c.args.plan.ports (numbers_of c.args.plan.ports) _ held c.serve-ready.result.ready.ports.items old mid (ports (g.W.World.book c.ticker.new.self)) (ports (g.W.World.book c.keep_live-2.new.world)) _
           (subst (λ (l : List PortPlan). AreOpened {S = S} {K = K} {C = C} (BothFresh g.W.S.Source.faults g.W.K.Sink.faults) (numbers_of l) (named_by l old) (named_by l mid) held) c.as_slice.ensures c.open_live.ensures.opened)
           (subst (λ (l : List PortPlan). OthersSame {X = Ends S K C} (numbers_of l) (length held) old mid) c.as_slice.ensures c.open_live.ensures.others)
           (ap ports c.ticker.ensures.rest ∙ ap ports c.output.ensures.rest ∙ ap ports c.open_live_control.ensures.rest)
-          (omega (arith, c.serve-served.ensures.ports, c.serve-served.result.ready.ports.ok.0, c.open_live.new.held.ok.0)) (ap (map number_of) c.as_slice-2.ensures.value ∙ c.in-Ok.ensures.numbers) c.keep_live-2.ensures.kept c.keep_live-2.ensures.others
-          (ap ports c.conclude_live.ensures.rest ∙ ap ports c.keep_output.ensures.rest ∙ ap ports c.keep_ticker.ensures.rest ∙ ap ports c.keep_live_control-2.ensures.rest);
-      others = live_others (numbers_of c.args.plan.ports) _ held c.serve-served.result.ready.ports.items old mid (ports (g.W.World.book c.ticker.new.self)) (ports (g.W.World.book c.keep_live-2.new.world)) _
+          (omega (arith, c.serve-ready.ensures.ports, c.serve-ready.result.ready.ports.ok.0, c.open_live.new.held.ok.0)) (ap (map number_of) c.as_slice-2.ensures.value ∙ c.in-Ok.ensures.numbers) c.keep_live-2.ensures.kept c.keep_live-2.ensures.others
+          (ap ports c.conclude.ensures.rest ∙ ap ports c.keep_output.ensures.rest ∙ ap ports c.keep_ticker.ensures.rest ∙ ap ports c.keep_live_control-2.ensures.rest);
+      others = live_others (numbers_of c.args.plan.ports) _ held c.serve-ready.result.ready.ports.items old mid (ports (g.W.World.book c.ticker.new.self)) (ports (g.W.World.book c.keep_live-2.new.world)) _
           (subst (λ (l : List PortPlan). OthersSame {X = Ends S K C} (numbers_of l) (length held) old mid) c.as_slice.ensures c.open_live.ensures.others)
           (ap ports c.ticker.ensures.rest ∙ ap ports c.output.ensures.rest ∙ ap ports c.open_live_control.ensures.rest)
-          (omega (arith, c.serve-served.ensures.ports, c.serve-served.result.ready.ports.ok.0, c.open_live.new.held.ok.0)) (ap (map number_of) c.as_slice-2.ensures.value ∙ c.in-Ok.ensures.numbers) c.keep_live-2.ensures.others
-          (ap ports c.conclude_live.ensures.rest ∙ ap ports c.keep_output.ensures.rest ∙ ap ports c.keep_ticker.ensures.rest ∙ ap ports c.keep_live_control-2.ensures.rest);
-      control = live_control (BothFresh g.W.S.Source.faults g.W.K.Sink.faults) c.args.plan.control c.in-Ok-open_live_control.control c.serve-served.result.ready.control _ (control (g.W.World.book c.open_live.new.world)) (control (g.W.World.book c.open_live_control.new.world)) (control (g.W.World.book c.keep_live-2.new.world)) (control (g.W.World.book c.keep_live_control-2.new.world)) _
-          (ap control c.open_live.ensures.rest) c.in-Ok-open_live_control.ensures.opened c.serve-served.ensures.control (ap control c.keep_live-2.ensures.rest ∙ ap control c.ticker.ensures.rest ∙ ap control c.output.ensures.rest)
-          c.keep_live_control-2.ensures.kept c.keep_live_control-2.ensures.none (ap control c.conclude_live.ensures.rest ∙ ap control c.keep_output.ensures.rest ∙ ap control c.keep_ticker.ensures.rest);
+          (omega (arith, c.serve-ready.ensures.ports, c.serve-ready.result.ready.ports.ok.0, c.open_live.new.held.ok.0)) (ap (map number_of) c.as_slice-2.ensures.value ∙ c.in-Ok.ensures.numbers) c.keep_live-2.ensures.others
+          (ap ports c.conclude.ensures.rest ∙ ap ports c.keep_output.ensures.rest ∙ ap ports c.keep_ticker.ensures.rest ∙ ap ports c.keep_live_control-2.ensures.rest);
+      control = live_control (BothFresh g.W.S.Source.faults g.W.K.Sink.faults) c.args.plan.control c.in-Ok-open_live_control.control c.serve-ready.result.ready.control _ (control (g.W.World.book c.open_live.new.world)) (control (g.W.World.book c.open_live_control.new.world)) (control (g.W.World.book c.keep_live-2.new.world)) (control (g.W.World.book c.keep_live_control-2.new.world)) _
+          (ap control c.open_live.ensures.rest) c.in-Ok-open_live_control.ensures.opened c.serve-ready.ensures.control (ap control c.keep_live-2.ensures.rest ∙ ap control c.ticker.ensures.rest ∙ ap control c.output.ensures.rest)
+          c.keep_live_control-2.ensures.kept c.keep_live_control-2.ensures.none (ap control c.conclude.ensures.rest ∙ ap control c.keep_output.ensures.rest ∙ ap control c.keep_ticker.ensures.rest);
       ticker = clock_by _ _ _ (ticker (g.W.World.book c.output.new.self)) (ticker (g.W.World.book c.keep_ticker.new.self)) _
           (ap ticker c.output.ensures.rest ∙ ap ticker c.open_live_control.ensures.rest ∙ ap ticker c.open_live.ensures.rest) c.ticker.ensures.hands.told c.keep_ticker.ensures.kept
-          (ap ticker c.conclude_live.ensures.rest ∙ ap ticker c.keep_output.ensures.rest);
-      journal = handled_one c.as_str-2.result.now c.as_str-3.result.now c.args.plan.journal c.in-Ok-output.sink c.serve-served.result.journal _ (outputs (g.W.World.book c.open_live_control.new.world)) (outputs (g.W.World.book c.output.new.self)) (outputs (g.W.World.book c.keep_ticker.new.self)) (outputs (g.W.World.book c.keep_output.new.self)) _
+          (ap ticker c.conclude.ensures.rest ∙ ap ticker c.keep_output.ensures.rest);
+      journal = handled_one c.as_str-2.result.now c.as_str-3.result.now c.args.plan.journal c.in-Ok-output.sink c.serve-ready.result.ready.journal _ (outputs (g.W.World.book c.open_live_control.new.world)) (outputs (g.W.World.book c.output.new.self)) (outputs (g.W.World.book c.keep_ticker.new.self)) (outputs (g.W.World.book c.keep_output.new.self)) _
           (c.as_str-2.ensures ∙ c.in-Ok.ensures.journal) (c.as_str-3.ensures ∙ c.in-Ok.ensures.journal)
           (ap outputs c.open_live_control.ensures.rest ∙ ap outputs c.open_live.ensures.rest) c.in-Ok-output.ensures.opens.told c.in-Ok-output.ensures.others
-          (ap outputs c.keep_ticker.ensures.rest ∙ ap outputs c.keep_live_control-2.ensures.rest ∙ ap outputs c.keep_live-2.ensures.rest ∙ ap outputs c.ticker.ensures.rest) c.keep_output.ensures.kept c.keep_output.ensures.others (ap outputs c.conclude_live.ensures.rest);
+          (ap outputs c.keep_ticker.ensures.rest ∙ ap outputs c.keep_live_control-2.ensures.rest ∙ ap outputs c.keep_live-2.ensures.rest ∙ ap outputs c.ticker.ensures.rest) c.keep_output.ensures.kept c.keep_output.ensures.others (ap outputs c.conclude.ensures.rest);
     }
 
 laws : (g : given.Over) (c : goal.After-drop-numbers-2 g) → Laws
 laws g c = record { alone = c.know_sessions.ensures.alone; access = c.know_sessions.ensures.access; first_come = c.know_sessions.ensures.first_come }
 
-final : (g : given.Over) (c : goal.After-drop-numbers-2 g) → Closes true g.W.S.Source.left g.W.K.Sink.written c.args.plan (ToldBy g.W.K.Sink.faults g.W.K.Sink.written c.args.errors.now c.conclude_live.new.errors)
-    (IsServeOf g.W.S.Source.left g.W.K.Sink.written g.W.S.Source.faults g.W.K.Sink.faults g.W.C.Clock.readings c.args.plan (ToldBy g.W.K.Sink.faults g.W.K.Sink.written c.args.errors.now c.conclude_live.new.errors) (g.W.World.book c.args.world.now) (g.W.World.book c.conclude_live.new.world) c.conclude_live.result)
-    (g.W.World.book c.args.world.now) (g.W.World.book c.conclude_live.new.world) c.conclude_live.result
+final : (g : given.Over) (c : goal.After-drop-numbers-2 g) → Closes true g.W.S.Source.left g.W.K.Sink.written c.args.plan (ToldBy g.W.K.Sink.faults g.W.K.Sink.written c.args.errors.now c.conclude.new.errors)
+    (IsServeOf g.W.S.Source.left g.W.K.Sink.written g.W.S.Source.faults g.W.K.Sink.faults g.W.C.Clock.readings c.args.plan (ToldBy g.W.K.Sink.faults g.W.K.Sink.written c.args.errors.now c.conclude.new.errors) (g.W.World.book c.args.world.now) (g.W.World.book c.conclude.new.world) c.conclude.result)
+    (g.W.World.book c.args.world.now) (g.W.World.book c.conclude.new.world) c.conclude.result
 final g c =
-    live_closes g.W.S.Source.left g.W.K.Sink.written g.W.S.Source.faults g.W.K.Sink.faults g.W.C.Clock.readings c.args.plan _ _ c.serve-served.result.ready c.in-Ok-output.sink c.serve-served.result.journal c.serve-served.result.outcome _ (g.W.World.book c.keep_output.new.self) _ c.conclude_live.result
+    live_closes g.W.S.Source.left g.W.K.Sink.written g.W.S.Source.faults g.W.K.Sink.faults g.W.C.Clock.readings c.args.plan _ _ c.serve-ready.result.ready c.serve-ready.result.outcome _ (g.W.World.book c.keep_output.new.self) _ c.conclude.result
     (laws g c) (handled_plan g c) (std_before g c)
-    c.serve-served.ensures.none c.serve-served.ensures.served c.conclude_live.ensures.none c.conclude_live.ensures.some
+    c.serve-ready.ensures.none c.serve-ready.ensures.served c.conclude.ensures.none c.conclude.ensures.some
 
 pub returns-clause-status : goal.returns-clause-status
 returns-clause-status g c = (final g c).one_of
@@ -400,7 +400,7 @@ returns-clause-still g c = λ other.
     let K = g.row.W-K.Denot in
     let C = g.row.W-C.Denot in
     let faults : Book S K C → ℕ = λ b. b.faults in
-    ap faults c.conclude_live.ensures.rest ∙ ap faults c.keep_output.ensures.rest ∙ ap faults c.keep_ticker.ensures.rest ∙ ap faults c.keep_live_control-2.ensures.rest ∙ ap faults c.keep_live-2.ensures.rest ∙ ap faults c.ticker.ensures.rest
+    ap faults c.conclude.ensures.rest ∙ ap faults c.keep_output.ensures.rest ∙ ap faults c.keep_ticker.ensures.rest ∙ ap faults c.keep_live_control-2.ensures.rest ∙ ap faults c.keep_live-2.ensures.rest ∙ ap faults c.ticker.ensures.rest
     ∙ c.in-Ok-output.ensures.opens.still ∙ c.in-Ok-open_live_control.ensures.still ∙ c.in_default-open_live.ensures.still
 
 pub returns-clause-unopened : goal.returns-clause-unopened
@@ -427,4 +427,4 @@ returns-clause-unused g c = (final g c).unused
 pub returns-clause-others : goal.returns-clause-others
 returns-clause-others g c =
     let K = g.row.W-K.Denot in
-    λ other apart. c.conclude_live.ensures.others other apart ∙ ap (λ (p : Std → Place K). p other) (std_before g c)
+    λ other apart. c.conclude.ensures.others other apart ∙ ap (λ (p : Std → Place K). p other) (std_before g c)

@@ -68,19 +68,13 @@ returns-in-Ok-clause-ran g c =
       unused = λ one_of. inr (c.in-Ok.plan, c.in-Ok.ensures.configured, moved_unused false c.in-Ok.plan _ _ _ _ before (same_places _) (c.replay_plan.ensures.unused one_of));
       inputs = λ other apart. ap (λ (b : Book S K C). b.inputs other) c.replay_plan.ensures.rest ∙ c.in-Ok.ensures.others other apart;
     } in
-    record { run = run; ticker = ticker; room = c.replay_plan.ensures.room }
+    record { run = run; ticker = ticker }
 
 err_of : (r r' : Refusal) → r ≡ r' → ◌≡◌ {A = Result Plan Refusal} (Err r) (Err r')
 err_of r r' e = rw e refl
 
 of_err : (r r' : Refusal) → ◌≡◌ {A = Result Plan Refusal} (Err r) (Err r') → r ≡ r'
 of_err r r' e = cc
-
-refused_otherwise : (refusal : Refusal) → refusal_status refusal ≢ 8
-refused_otherwise refusals.NoMemory e = omega (arith, e)
-refused_otherwise refusals.CannotOpen e = omega (arith, e)
-refused_otherwise refusals.ReadFailed e = omega (arith, e)
-refused_otherwise (refusals.Refused fault) e = omega (arith, e)
 
 pub returns-in-Err-clause-ran : goal.returns-in-Err-clause-ran
 returns-in-Err-clause-ran g c =
@@ -104,4 +98,4 @@ returns-in-Err-clause-ran g c =
     (record { ports = ap (λ (b : Book S K C). b.ports) c.in-Err.ensures.rest; control = ap (λ (b : Book S K C). b.control) c.in-Err.ensures.rest; ticker = ap (λ (b : Book S K C). b.ticker) c.in-Err.ensures.rest; outputs = ap (λ (b : Book S K C). b.outputs) c.in-Err.ensures.rest })
     (ap (λ (b : Book S K C). b.std Out) c.in-Err.ensures.rest)
     c.in-Err.ensures.others in
-    record { run = run; ticker = ap (λ (b : Book S K C). b.ticker) c.in-Err.ensures.rest; room = λ eight. refused_otherwise c.in-Err.refusal (sym c.refuse.ensures.status ∙ eight) }
+    record { run = run; ticker = ap (λ (b : Book S K C). b.ticker) c.in-Err.ensures.rest }

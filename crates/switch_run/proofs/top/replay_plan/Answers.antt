@@ -9,10 +9,10 @@ use Rattle.port_worker.specs.declared.port_ends.PortEnds.{PortEnds}
 use Rattle.port_worker.specs.Replays.{ports_held}
 use Rattle.switch_ports.specs.Openings.{ports_of, IsNextBehind}
 use Rattle.switch_report.specs.RunLines.{cannot_open_line, control_word, journal_word}
-use Rattle.switch_run.specs.declared.session.Outcome.{Outcome}
+use Rattle.switch_run.specs.declared.outcome.Outcome.{Outcome}
 use Rattle.switch_run.specs.Causes.{ports_in}
 use Rattle.switch_run.specs.Session.{IsSessionOf, ToldBy}
-use Rattle.switch_run.proofs.Ending.{Closes, closes, control_same, has_room, stays_all, unused_by}
+use Rattle.switch_run.proofs.Ending.{Closes, closes, control_same, stays_all, unused_by}
 use Rattle.switch_run.proofs.Through.{Handled, HandledAll, HandledControl, Laws, control_back, control_unopened, journal_unopened, port_unopened, ports_off, ports_off_next}
 use Rattle.switch_run.proofs.Handling.{apart_all, apart_back, apart_first, control_by, control_out, handled_by, handled_one, opened_as, others_by, out_back, same_ports}
 use Rattle.switch_run.proofs.Recast.{told_by}
@@ -273,11 +273,6 @@ final g c =
     closes g.W.S.Source.left g.W.K.Sink.written g.W.S.Source.faults g.W.K.Sink.faults c.args.plan _ c.in-Ok.control c.play-control.result.control c.open_all.new.held.items c.play-control.result.ports.items c.in-Ok-output.sink c.play-control.result.journal _ _ c.conclude.result
     c.play-control.result.outcome (g.W.World.book c.keep_output.new.self) (laws g c) (handled_all g c) (ticker_same g c) (std_before g c) c.open_all.ensures.readers
     (none_of _ _ c.play-control.result.outcome c.open_all.new.held c.play-control.result.ports c.play-control.ensures.none) c.play-control.ensures.played c.conclude.ensures.none c.conclude.ensures.some
-
-pub returns-clause-room : goal.returns-clause-room
-returns-clause-room g c =
-    has_room g.W.S.Source.left g.W.K.Sink.written g.W.S.Source.faults g.W.K.Sink.faults c.args.plan (ToldBy g.W.K.Sink.faults g.W.K.Sink.written c.args.errors.now c.conclude.new.errors) c.in-Ok.control c.play-control.result.control c.open_all.new.held.items c.play-control.result.ports.items c.in-Ok-output.sink c.play-control.result.journal (g.W.World.book c.args.world.now) (g.W.World.book c.conclude.new.world) c.conclude.result
-    c.play-control.result.outcome (g.W.World.book c.keep_output.new.self) (std_before g c) c.play-control.ensures.played c.conclude.ensures.none c.conclude.ensures.some
 
 pub returns-clause-status : goal.returns-clause-status
 returns-clause-status g c = (final g c).one_of

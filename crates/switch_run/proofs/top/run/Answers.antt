@@ -54,9 +54,6 @@ returns-clause-unopened g c = (ran_so g c).unopened
 pub returns-clause-session : goal.returns-clause-session
 returns-clause-session g c = (ran_so g c).session
 
-pub returns-clause-room : goal.returns-clause-room
-returns-clause-room g c = (ran_so g c).room
-
 pub returns-clause-read : goal.returns-clause-read
 returns-clause-read g c = (ran_so g c).read
 

@@ -1,6 +1,0 @@
-use Rattle.std.proofs.Common.{◌≡◌, false, take}
-use Rattle.savi_history.specs.Endings.{has_malformed}
-use Rattle.switch_report.proofs.ending.has_malformed.Given as goal
-
-abbrev pub invariant-loop-n : goal.invariant-loop-n
-invariant-loop-n l = has_malformed (take l.n l.hist.rows) ≡ false
