@@ -26,9 +26,10 @@ plan:
 
 # The program beside a C program that does the same octet work without judging, with 2 ports and with 5; live, beside a hub
 # in C; its own load; the check of a journal beside the replay that wrote it; a history that turns beside one that holds it
-# all; the reader of captures beside tcpdump; the pass lock beside a mutex; the stations, the bindings and the timers beside
-# hash maps; and steps of the core, with the validation of sources and without. Then one table, beside C and, with make bench
-# BEFORE=PROGRAM, beside that program. The first time takes the builds, and then about four minutes, longer with BEFORE.
+# all, of a replay and live; the reader of captures beside tcpdump; the pass lock beside a mutex; the stations, the bindings
+# and the timers beside hash maps; and steps of the core, with the validation of sources and without. Then one table, beside
+# C and, with make bench BEFORE=PROGRAM, beside that program. The first time takes the builds, and then about five minutes,
+# longer with BEFORE.
 BEFORE =
 bench: build build/capture_bench build/lock_bench build/fdb_bench build/tables_bench build/core_bench
 	bench/all build/savi_switch $(if $(BEFORE),--before "$(BEFORE)")
@@ -66,7 +67,7 @@ TOOLS = $(notdir $(wildcard $(addprefix tools/,plan plan-from-learn journal-tabl
 PACKAGES = reading tools/tool_parts tools/switch_panel
 KEPT = $(addprefix reading/,checking.py conf_runs.py core_runs.py failing_calls.py learn.py line_runs.py live.py load.py \
 	making.py pcapng.py session.py) \
-	$(addprefix tools/tool_parts/,crate_list.py plan_cases.py random_learn.py serving.py toml_cases.py)
+	$(addprefix tools/tool_parts/,crate_list.py flooding.py plan_cases.py random_learn.py serving.py toml_cases.py)
 UNITS = $(notdir $(wildcard packaging/*.service packaging/*.socket packaging/*.target packaging/*.timer packaging/*.path))
 PAGES = $(notdir $(wildcard docs/*.1 docs/*.5 docs/*.8))
 # Tools whose manual page has another name.

@@ -6,11 +6,14 @@
  * Before that each host claims its addresses by duplicate address detection, and sends packets until one from each address
  * came, so that all addresses are valid and all stations known. Never more than WINDOW packets of a sender are on their way:
  * with 1 each waits for the one before. A packet that doesn't come within 10 s is lost, and the load fails.
- * usage: stream_load [-a] [-b] [-p] [-f FRAMES] [-s SIZE] [-w WINDOW] [-g BATCH] [-n ADDRESSES] PATH PATH..
+ * usage: stream_load [-a] [-b] [-p] [-f FRAMES] [-s SIZE] [-w WINDOW] [-g BATCH] [-n ADDRESSES] [-t GAP] PATH PATH..
  *   -a  from the first host to all others     -b  both ways in each pair
  *   -p  to the second host and back: it is a process of its own, which answers each packet by one of its own. What is
  *       printed is the median of the FRAMES times that this took, in s
- *   BATCH: how many packets one write has at most     ADDRESSES: how many source addresses a sender uses in turn */
+ *   BATCH: how many packets one write has at most     ADDRESSES: how many source addresses a sender uses in turn
+ *   -t  a line in front for each time of GAP microseconds or more in which no packet came to a host, between two that came
+ *       there: the host's number, when it began and when it ended, in s of CLOCK_MONOTONIC; and such a line of the whole
+ *       time, with the number 0; not with -p */
 #include <errno.h>
 #include <poll.h>
 #include <signal.h>
@@ -39,21 +42,23 @@
 static const unsigned char mark[8] = { 't', 'h', 'e', ' ', 'l', 'o', 'a', 'd' };
 
 /* A host: its number (from 1, the last octet of its MAC address), its socket, and what came in and isn't whole yet. Of the
- * packets that came it keeps how many there were, and by which source addresses. Where it is a sender, `packets` are some
- * packets that go out in turn, and `to` is whom they are for. */
+ * packets that came it keeps how many there were, and by which source addresses; `came` is when the last ones came, and
+ * `known` how many there were then. Where it is a sender, `packets` are some packets that go out in turn, and `to` is whom
+ * they are for. */
 struct host {
     int fd;
     unsigned char number, to;
     unsigned char in[ROOM], came_by[ADDRESSES];
     size_t have;
-    long received, sent;
+    long received, sent, known;
+    double came;
     unsigned char *packets;
 };
 
 static struct host host[HOSTS];
 static int hosts;
 static int is_to_all, is_both_ways, is_ping_pong;
-static long frames = 100000, size = LEAST, window = 128, batch = 1, addresses = 1;
+static long frames = 100000, size = LEAST, window = 128, batch = 1, addresses = 1, gap = 0;
 
 static void fail(const char *what)
 {
@@ -307,6 +312,20 @@ static int is_over(void)
     return 1;
 }
 
+/* Tells how long nothing came to the hosts to which packets have come now, where that is long. */
+static void tell_gaps(void)
+{
+    double moment = now();
+    for (struct host *h = host; h < host + hosts; h++) {
+        if (h->received == h->known)
+            continue;
+        if (h->came > 0 && moment - h->came >= 1e-6 * (double)gap)
+            printf("%d %.6f %.6f\n", h->number, h->came, moment);
+        h->came = moment;
+        h->known = h->received;
+    }
+}
+
 static void run(void)
 {
     while (!is_over()) {
@@ -315,6 +334,8 @@ static void run(void)
                 fill(h);
         if (!take_any(PATIENCE))
             fail("a packet is lost");
+        if (gap > 0)
+            tell_gaps();
     }
 }
 
@@ -371,7 +392,7 @@ static void leave(void)
 static int read_options(int argc, char **argv)
 {
     int option;
-    while ((option = getopt(argc, argv, "abpf:s:w:g:n:")) != -1) {
+    while ((option = getopt(argc, argv, "abpf:s:w:g:n:t:")) != -1) {
         switch (option) {
         case 'a': is_to_all = 1; break;
         case 'b': is_both_ways = 1; break;
@@ -381,19 +402,22 @@ static int read_options(int argc, char **argv)
         case 'w': window = atol(optarg); break;
         case 'g': batch = atol(optarg); break;
         case 'n': addresses = atol(optarg); break;
+        case 't': gap = atol(optarg); break;
         default: return 0;
         }
     }
     hosts = argc - optind;
     return hosts >= 2 && hosts <= HOSTS && (is_to_all ? !is_both_ways : hosts % 2 == 0) && frames >= 1 && size >= LEAST &&
-           size <= MOST && window >= 1 && batch >= 1 && batch <= 1000 && addresses >= 1 && addresses <= ADDRESSES;
+           size <= MOST && window >= 1 && batch >= 1 && batch <= 1000 && addresses >= 1 && addresses <= ADDRESSES &&
+           gap >= 0 && (gap == 0 || !is_ping_pong);
 }
 
 int main(int argc, char **argv)
 {
     if (!read_options(argc, argv)) {
         fprintf(stderr, "usage: stream_load [-a] [-b] [-p] [-f FRAMES] [-s SIZE] [-w WINDOW] [-g BATCH] [-n ADDRESSES] "
-                        "PATH PATH..\n(SIZE from %d to %d, at most %d ADDRESSES and %d paths, an even number but with -a)\n",
+                        "[-t GAP] PATH PATH..\n(SIZE from %d to %d, at most %d ADDRESSES and %d paths, an even number but "
+                        "with -a)\n",
                 LEAST, MOST, ADDRESSES, HOSTS);
         return 2;
     }
@@ -406,7 +430,10 @@ int main(int argc, char **argv)
     } else {
         double began = now();
         run();
-        printf("%.6f\n", now() - began);
+        double ended = now();
+        if (gap > 0)
+            printf("0 %.6f %.6f\n", began, ended);
+        printf("%.6f\n", ended - began);
     }
     leave();
     return 0;

@@ -4,7 +4,7 @@ import random
 import struct
 
 from . import capture, commands
-from .session import CONTROL, STATUSES, Replay, Segment
+from .session import CONTROL, Replay, Segment
 
 # The most octets of records that go in one write, and the most items of one drain.
 GATHERED, DRAINED = 65536, 256
@@ -80,20 +80,34 @@ class Worker:
 
 
 class Live(Replay):
-    """A live session keeps to one segment: an input for which there is no room is paused, and that is its end.
+    """A live session, in segments: an input for which there is no room is paused, and so are the others, the ticker and the
+    outputs; the next segment begins with what each of them had before it.
 
     `inputs` and `control` are as those of a replay. `holds` has for a pass and the number of a turn which other pass has
     to come by first, and for which turn. The order of the turns is drawn by `seed`."""
 
     def __init__(self, plan, inputs, control=None, fails=None, ticker=None, holds=None, seed=0):
         self.clock, self.holds, self.random = ticker or Clock(), holds or {}, random.Random(seed)
-        self.ticker_is_over = False
+        # What is paused in the segment that goes on, whether the ticker has ended in it, and the outputs that were begun.
+        self.paused, self.ticker_is_over, self.begun = set(), False, set()
         super().__init__(plan, inputs, control, fails)
 
     def play(self):
-        workers = [Worker(source.by, self.take(n, source)) for n, source in self.inputs.items()]
+        came = {}
+        self.serve(came)
+        while self.paused:
+            self.paused, self.ticker_is_over = set(), False
+            self.switch.turn()
+            self.base = list(self.switch.base_lines())
+            self.serve(came)
+
+    def serve(self, came):
+        """Plays a segment. `came` has how many turns each pass took before it."""
+        workers = [Worker(source.by, self.take(n, source)) for n, source in self.inputs.items() if not source.is_over]
         workers.append(Worker(self.switch.ticker_pass, self.tick()))
-        workers += [Worker(by, self.send(n)) for n, by in self.switch.egress_pass.items()]
+        workers += [Worker(by, self.send(n)) for n, by in self.switch.egress_pass.items() if n not in self.switch.closed]
+        for worker in workers:
+            worker.came = came.get(worker.by, 0)
         self.workers = {worker.by: worker for worker in workers}
         running = list(self.workers.values())
         while running:
@@ -103,7 +117,8 @@ class Live(Replay):
             worker = self.random.choice(able)
             if not worker.go_on():
                 running.remove(worker)
-        self.segments.append(Segment([], self.switch.entries))
+        came.update((worker.by, worker.came) for worker in workers)
+        self.segments.append(Segment(self.base, self.switch.entries))
 
     def may_go_on(self, worker):
         holds = self.holds.get((worker.by, worker.came), []) if worker.place == TURN else []
@@ -136,8 +151,7 @@ class Live(Replay):
     def taken(self, source):
         """What comes next of an input; or None where there is no room for it, and the input is paused."""
         if self.switch.is_full():
-            source.is_over = True
-            self.note("paused", f"{source.title}: history full at {len(self.switch.entries)}")
+            self.paused.add(source.by)
             self.switch.end(source.by, f"{source.name} paused")
             return None
         arrival = source.head()
@@ -146,13 +160,10 @@ class Live(Replay):
 
     def closing(self):
         """How the ticker and the outputs end: they are paused where an input is."""
-        return "paused" if "paused" in self.causes else "end"
-
-    def status(self):
-        return next((status for cause, status in (*STATUSES, ("paused", 8)) if cause in self.causes), 0)
+        return "paused" if self.paused else "end"
 
     def inputs_are_over(self):
-        return all(source.is_over for source in self.inputs.values())
+        return all(source.is_over or source.by in self.paused for source in self.inputs.values())
 
     def is_due(self, stamp):
         """Whether the state of an address, or a probe, is due by then."""
@@ -179,7 +190,8 @@ class Live(Replay):
     def send(self, port):
         """The turns of an output."""
         is_stream = self.plan_of(port).format == "stream"
-        is_written = is_stream or self.outputs[port].write(capture.HEADER)
+        is_written = port in self.begun or is_stream or self.outputs[port].write(capture.HEADER)
+        self.begun.add(port)
         while is_written:
             yield TURN
             queue = self.switch.queues[port]
@@ -207,9 +219,9 @@ class Live(Replay):
         return all(self.outputs[port].write(piece) for piece in pieces if piece)
 
     def ticks(self):
-        return [f"{entry.by} {entry.moment} {entry.text}" for entry in self.switch.entries if entry.text.startswith("T ")]
+        return [f"{entry.by} {entry.moment} {entry.text}" for entry in self.entries() if entry.text.startswith("T ")]
 
     def ends(self):
         """How each pass ended, in the order of the passes."""
-        ends = [entry for entry in self.switch.entries if entry.text.startswith("E ")]
+        ends = [entry for entry in self.entries() if entry.text.startswith("E ") and not entry.text.endswith(" paused")]
         return [entry.text.removeprefix("E ") for entry in sorted(ends, key=lambda entry: entry.by)]

@@ -1,5 +1,6 @@
 /* Loaded into a program before libc (LD_PRELOAD) it counts the program's allocations. REFUSED is the number of the one that
- * is refused, from 1; at the end the number of all is written to the file that COUNTED names. */
+ * is refused, from 1, and REFUSED_FROM that of the first one of all that are; at the end the number of all is written to the
+ * file that COUNTED names. */
 #define _GNU_SOURCE
 #include <errno.h>
 #include <stdatomic.h>
@@ -15,12 +16,18 @@ void *__libc_realloc(void *old, size_t size);
 void *__libc_memalign(size_t place, size_t size);
 
 static atomic_long made;
-static long refused;
+static long refused, refused_from;
+
+static long number_of(const char *name)
+{
+    const char *number = getenv(name);
+    return number ? atol(number) : 0;
+}
 
 __attribute__((constructor)) static void begin(void)
 {
-    const char *number = getenv("REFUSED");
-    refused = number ? atol(number) : 0;
+    refused = number_of("REFUSED");
+    refused_from = number_of("REFUSED_FROM");
     atomic_store(&made, 0);
 }
 
@@ -45,7 +52,8 @@ void _exit(int status)
 
 static int is_refused(void)
 {
-    if (atomic_fetch_add(&made, 1) + 1 != refused)
+    long number = atomic_fetch_add(&made, 1) + 1;
+    if (number != refused && (refused_from == 0 || number < refused_from))
         return 0;
     errno = ENOMEM;
     return 1;

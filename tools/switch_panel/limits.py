@@ -22,8 +22,8 @@ def descriptors(plan):
 
 def threads(plan):
     """How many threads a switch has while no input has ended: the ticker's, one for each output, two for each input that
-    doesn't end by itself, who reads and who judges, and one for control."""
-    return 1 + len(plan.ports) + 2 * sum(port.format == "stream" for port in plan.ports) + bool(plan.control)
+    doesn't end by itself, who reads and who judges, and two for control likewise."""
+    return 1 + len(plan.ports) + 2 * sum(port.format == "stream" for port in plan.ports) + 2 * bool(plan.control)
 
 
 def lacking_descriptors(limits, needed):

@@ -134,8 +134,7 @@ class Run:
         asyncio.get_running_loop().add_reader(self.poll.fileno(), look)
 
     async def ask_on(self):
-        """Asks the switch again and again whether it answers: one whose history is full takes nothing in any more, and says
-        so to nobody."""
+        """Asks the switch again and again whether it answers."""
         while not self.is_stopping.is_set():
             await asyncio.sleep(self.panel.ask_s)
             await self.ask_once()
@@ -147,7 +146,7 @@ class Run:
             self.stop("control ended")
         except (TimeoutError, asyncio.TimeoutError):
             self.control.is_over = True
-            self.stop(f"the switch doesn't answer within {self.panel.answer_s} s: its history may be full")
+            self.stop(f"the switch doesn't answer within {self.panel.answer_s} s")
 
     # The end.
 

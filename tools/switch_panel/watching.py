@@ -205,5 +205,5 @@ def why_not_whole(path):
         return "it doesn't end by the line `end N`: the switch was killed, or its disk is full"
     last_segment = lines[max((at for at, line in enumerate(lines) if line == b"begin"), default=0):]
     if any(line.endswith(b" paused") for line in last_segment):
-        return "its last segment is paused, and none follows: the switch was killed, or its history was full"
+        return "its last segment is paused, and none follows: the switch was killed"
     return None
