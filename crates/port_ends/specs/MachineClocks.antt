@@ -8,5 +8,5 @@ abbrev pub began_at : ClockStart → ℕ
 began_at start = start.time_of_day
 
 -- what it read last, in ms
-abbrev pub last_of : {R : Type 0} → MachineClock R → ℕ
+abbrev pub last_of : {T R : Type 0} → MachineClock T R → ℕ
 last_of c = c.last

@@ -6,12 +6,12 @@ use crate::clock_start::ClockStart;
 use crate::pauses::Pauses;
 use savi_ends::Clock;
 use std::alloc::Global;
-use std::sync::Arc;
+use std::sync::{Arc, Wait};
 use std::thread;
 use std::time::{Clock as Timer, Duration};
 
 /// How long a wait lasts, in ms.
-const WAIT_MS: u64 = 10;
+pub(crate) const WAIT_MS: u64 = 10;
 
 /// So many ns are a ms.
 const NANOS: u64 = 1_000_000;
@@ -20,22 +20,32 @@ const NANOS: u64 = 1_000_000;
 /// monotonic clock tells, so that a time of day that is set back or forward meanwhile changes nothing. It never goes back,
 /// stands still while inputs wait (`Pauses`), and where the monotonic clock can't be read: at that time of day, if it never
 /// could. It tells nothing of its readings.
+///
+/// A wait of a clock that stands in pauses ends early where the inputs begin to wait, so that a ticker looks at once. One
+/// clock of those pauses waits at a time.
 #[derive(Drop)]
-pub struct MachineClock<R: Copy> {
+pub struct MachineClock<T: Copy, R: Copy> {
+    timer: T,
     rt: R,
     start: ClockStart,
     pauses: Option<Arc<Pauses, Global>>,
     last: u64,
 }
 
-impl<R: Timer + Copy> MachineClock<R> {
+impl<T: Timer + Copy, R: Wait + Copy> MachineClock<T, R> {
     ghost use Rattle.port_ends.specs.MachineClocks.{began_at, last_of};
 
     /// A clock that began then, and stands in these pauses, or in none.
-    pub fn new(rt: R, start: ClockStart, pauses: Option<Arc<Pauses, Global>>) -> MachineClock<R>
+    pub fn new(
+        timer: T,
+        rt: R,
+        start: ClockStart,
+        pauses: Option<Arc<Pauses, Global>>,
+    ) -> MachineClock<T, R>
         ensures { last_of result ≡ began_at start }
     {
         MachineClock {
+            timer,
             rt,
             start,
             pauses,
@@ -46,7 +56,7 @@ impl<R: Timer + Copy> MachineClock<R> {
     // The moment (ms): the time of day at the start, and what has passed since, without pauses. `None` where that can't be
     // read.
     fn moment(&self) -> Option<u64> {
-        let now = self.start.since(&self.rt)?;
+        let now = self.start.since(&self.timer)?;
         let since = match &self.pauses {
             Some(pauses) => pauses.reading_at(now),
             None => now,
@@ -55,7 +65,7 @@ impl<R: Timer + Copy> MachineClock<R> {
     }
 }
 
-impl<R: Timer + Copy> Clock for MachineClock<R> {
+impl<T: Timer + Copy, R: Wait + Copy> Clock for MachineClock<T, R> {
     ghost use Rattle.savi_ends.specs.Readings.{AddsReading};
     ghost use Rattle.port_ends.specs.MachineClocks.{last_of};
 
@@ -78,7 +88,10 @@ impl<R: Timer + Copy> Clock for MachineClock<R> {
         ensures steady { last_of self.old ≤ result }
         ensures last { last_of self.new ≡ result }
     {
-        thread::sleep(&self.rt, Duration::from_millis(WAIT_MS));
+        match &self.pauses {
+            Some(pauses) => pauses.wait(&self.rt),
+            None => thread::sleep(&self.timer, Duration::from_millis(WAIT_MS)),
+        }
         self.now()
     }
 }

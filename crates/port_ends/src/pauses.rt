@@ -1,16 +1,21 @@
 //! When the inputs of a run wait, and how its clocks stand meanwhile.
 
 use crate::clock_start::ClockStart;
+use crate::machine_clock::WAIT_MS;
 use std::alloc::{AllocError, Global};
-use std::sync::Arc;
 use std::sync::atomic::{AtomicU64, Ordering};
-use std::time::Clock as Timer;
+use std::sync::{Arc, Wait};
+use std::thread::Parker;
+use std::time::{Clock as Timer, Duration};
 
 /// From here on a state is a time at which the clocks stand.
 const STANDS: u64 = 1 << 63;
 
 /// Clocks that lag go faster by one part in so many.
 const CATCHES_UP: u64 = 64;
+
+/// How long a wait lasts while the inputs wait, in ms.
+const PAUSED_WAIT_MS: u64 = 1;
 
 /// When the inputs of a run wait: then its clocks stand, so that nothing runs out that an arrival in a ring would have kept
 /// from it. Behind that they go on from there, and faster by 1/64, until they have caught up with the machine's.
@@ -26,6 +31,8 @@ const CATCHES_UP: u64 = 64;
 pub struct Pauses {
     start: ClockStart,
     state: AtomicU64,
+    // where a clock waits
+    waiting: Parker,
 }
 
 impl Pauses {
@@ -34,6 +41,7 @@ impl Pauses {
         let pauses = Pauses {
             start: ClockStart::read(rt),
             state: AtomicU64::new(0),
+            waiting: Parker::new(),
         };
         Ok(Arc::new(alloc, pauses)?)
     }
@@ -44,7 +52,8 @@ impl Pauses {
     }
 
     /// Tells whether the inputs wait, which may be told again, also by threads side by side; that they don't is told by one
-    /// alone. The answer is the machine's time, or 0 where that can't be read: then they don't wait. O(1).
+    /// alone. That they do wakes a clock that waits. The answer is the machine's time, or 0 where that can't be read: then
+    /// they don't wait. O(1).
     pub fn tell<R: Timer>(&self, rt: &R, wait: bool) -> u64 {
         let now = self.start.since(rt);
         let state = self.state.load(Ordering::SeqCst);
@@ -52,7 +61,18 @@ impl Pauses {
             Some(now) if wait => self.stand(state, now),
             _ => self.go_on(state, now),
         }
+        if wait {
+            self.waiting.unpark();
+        }
         now.unwrap_or(0)
+    }
+
+    // Waits for as long as a clock does: 10 ms, or 1 ms while the inputs wait, or until it is told that they do. It may wait
+    // for less. One thread waits at a time.
+    pub(crate) fn wait<R: Wait>(&self, rt: &R) {
+        let stands = self.state.load(Ordering::SeqCst) >= STANDS;
+        let length = if stands { PAUSED_WAIT_MS } else { WAIT_MS };
+        self.waiting.park_timeout(rt, Duration::from_millis(length));
     }
 
     // The clocks stand from now on, unless they do already.

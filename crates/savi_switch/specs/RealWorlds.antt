@@ -21,7 +21,7 @@ std_place w Out = spot_place w.out
 std_place w Err = spot_place w.err
 
 abbrev pub book_of : {R A B C D : Type 0} → RealWorld R A B C D →
-    Book (PortSource FileSource (SocketSource R A B C D)) (PortSink FileSink (SocketSink R A B C D)) (MachineClock LibcRuntime)
+    Book (PortSource FileSource (SocketSource R A B C D)) (PortSink FileSink (SocketSink R A B C D)) (MachineClock LibcRuntime R)
 book_of w = record {
   faults = w.faults;
   inputs = named_place w.input;

@@ -22,17 +22,17 @@ pub type RealSource<R> = PortSource<FileSource, SocketSource<R>>;
 pub type RealSink<R> = PortSink<FileSink, SocketSink<R>>;
 
 /// The ends of a port, or of control.
-pub type RealEnds<R> = Ends<RealSource<R>, RealSink<R>, RealClock>;
+pub type RealEnds<R> = Ends<RealSource<R>, RealSink<R>, RealClock<R>>;
 
 /// The machine's clock.
-pub type RealClock = MachineClock<HostRuntime>;
+pub type RealClock<R> = MachineClock<HostRuntime, R>;
 
 /// Opens files and sockets by name, and knows which files are open. A file that is written holds what it did before until
 /// the first octet is written.
 #[derive(Drop)]
 pub struct Opener<R: Files + Net + Wait + Copy + Drop> {
     host: HostRuntime,
-    // what sockets listen and wait by
+    // what sockets listen, and sockets and clocks wait by
     rt: R,
     alloc: Global,
     // what sockets and clocks look at
@@ -66,11 +66,11 @@ impl<R: Files + Net + Wait + Copy + Drop> Opener<R> {
     }
 
     /// A clock of this run, which stands while its inputs wait.
-    pub fn clock(&self) -> RealClock
+    pub fn clock(&self) -> RealClock<R>
         ensures { last_of result ≡ began_at self.now.start }
     {
         let pauses = Arc::try_clone(&self.awaiting.pauses).ok();
-        MachineClock::new(self.host, self.start, pauses)
+        MachineClock::new(self.host, self.rt, self.start, pauses)
     }
 
     /// The ends over these two names: sockets, where they are live, of which the sink does so with what a peer doesn't take,

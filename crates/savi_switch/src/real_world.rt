@@ -35,7 +35,7 @@ pub struct RealWorld<R: Files + Net + Wait + Copy + Drop> {
     outputs: NamedSpots<RealSink<R>>,
     ports: PortSpots<RealEnds<R>>,
     control: Spot<RealEnds<R>>,
-    ticker: Spot<RealClock>,
+    ticker: Spot<RealClock<R>>,
     out: Spot<RealSink<R>>,
     err: Spot<RealSink<R>>,
 }
@@ -110,7 +110,7 @@ impl<R: Files + Net + Wait + Copy + Send + Sync + Drop> World for RealWorld<R> {
 
     type K = RealSink<R>;
 
-    type C = RealClock;
+    type C = RealClock<R>;
 
     ghost book = { book_of };
 
@@ -208,7 +208,7 @@ impl<R: Files + Net + Wait + Copy + Send + Sync + Drop> World for RealWorld<R> {
         }
     }
 
-    fn ticker(&mut self) -> RealClock
+    fn ticker(&mut self) -> RealClock<R>
         requires { (book_of self.old).ticker.is_out ≡ false }
         ensures hands { HandsOut (book_of self.old).ticker (book_of self.new).ticker result }
         ensures rest { book_of self.new ≡ record (book_of self.old) { ticker = (book_of self.new).ticker } }
@@ -279,7 +279,7 @@ impl<R: Files + Net + Wait + Copy + Send + Sync + Drop> World for RealWorld<R> {
         self.outputs.keep(name, sink);
     }
 
-    fn keep_ticker(&mut self, clock: RealClock)
+    fn keep_ticker(&mut self, clock: RealClock<R>)
         requires { (book_of self.old).ticker.is_out ≡ true }
         ensures kept { (book_of self.new).ticker.stands ≡ Some clock }
         ensures rest { book_of self.new ≡ record (book_of self.old) { ticker = (book_of self.new).ticker } }

@@ -5,8 +5,8 @@ use port_ends::{MachineClock, Pauses};
 use savi_ends::Clock;
 use std::alloc::Global;
 use std::io;
-use std::sync::Arc;
 use std::sync::atomic::{AtomicU64, Ordering};
+use std::sync::{Arc, Wait};
 use std::time::{self, Duration};
 
 // Two clocks that are set by hand, in ms: the time of day and a monotonic one.
@@ -43,7 +43,7 @@ impl time::Clock for HandClocks {
 /// Prints what a clock that begins at the first setting of two others reads at each later one, and again by a wait; then
 /// what a clock of the same start reads that is first read at the last one. A setting is the time of day, `/`, and the
 /// monotonic clock, in ms. Behind the word `waits` the inputs wait, until behind `goes`.
-pub fn print_clocks(rt: &impl Print, alloc: Global, rest: &str) -> anyhow::Result<()> {
+pub fn print_clocks<R: Print + Wait>(rt: &R, alloc: Global, rest: &str) -> anyhow::Result<()> {
     let (first, settings) = rest.split_once(' ').unwrap_or((rest, ""));
     let clocks = HandClocks {
         time_of_day: AtomicU64::new(0),
@@ -51,7 +51,7 @@ pub fn print_clocks(rt: &impl Print, alloc: Global, rest: &str) -> anyhow::Resul
     };
     clocks.set(first)?;
     let pauses = Pauses::make(&clocks, alloc)?;
-    let mut early = clock_of(&clocks, &pauses)?;
+    let mut early = clock_of(&clocks, rt, &pauses)?;
     for setting in settings.split_whitespace() {
         if setting == "waits" || setting == "goes" {
             let _now = pauses.tell(&clocks, setting == "waits");
@@ -61,16 +61,17 @@ pub fn print_clocks(rt: &impl Print, alloc: Global, rest: &str) -> anyhow::Resul
         let (reading, later) = (early.now(), early.wait());
         print!(rt; " {reading} {later},")?;
     }
-    let mut late = clock_of(&clocks, &pauses)?;
+    let mut late = clock_of(&clocks, rt, &pauses)?;
     println!(rt; " {}", late.now())?;
     Ok(())
 }
 
 // A clock over these two, which stands in these pauses.
-fn clock_of<'a>(
+fn clock_of<'a, R: Wait>(
     clocks: &'a HandClocks,
+    rt: &'a R,
     pauses: &Arc<Pauses, Global>,
-) -> anyhow::Result<MachineClock<&'a HandClocks>> {
+) -> anyhow::Result<MachineClock<&'a HandClocks, &'a R>> {
     let shared = Arc::try_clone(pauses)?;
-    Ok(MachineClock::new(clocks, pauses.start(), Some(shared)))
+    Ok(MachineClock::new(clocks, rt, pauses.start(), Some(shared)))
 }

@@ -14,6 +14,7 @@ use crate::world::print_world;
 use crate::writers::print_written;
 use anyhow::bail;
 use std::alloc::{AllocError, Global};
+use std::sync::Wait;
 
 /// The input, what was said, and a history.
 #[derive(Drop)]
@@ -34,7 +35,12 @@ impl State {
     }
 
     /// Does what a line says.
-    pub fn follow(&mut self, rt: &impl Print, alloc: Global, line: &str) -> anyhow::Result<()> {
+    pub fn follow<R: Print + Wait>(
+        &mut self,
+        rt: &R,
+        alloc: Global,
+        line: &str,
+    ) -> anyhow::Result<()> {
         let (word, rest) = line.split_once(' ').unwrap_or((line, ""));
         match word {
             "" | "#" => Ok(()),
@@ -57,9 +63,9 @@ impl State {
     }
 
     // Prints what is asked of the report or the history, or else.
-    fn print(
+    fn print<R: Print + Wait>(
         &mut self,
-        rt: &impl Print,
+        rt: &R,
         alloc: Global,
         word: &str,
         rest: &str,
@@ -83,7 +89,12 @@ impl State {
 }
 
 // Prints what a line comes to that goes by no other.
-fn print_alone(rt: &impl Print, alloc: Global, word: &str, rest: &str) -> anyhow::Result<()> {
+fn print_alone<R: Print + Wait>(
+    rt: &R,
+    alloc: Global,
+    word: &str,
+    rest: &str,
+) -> anyhow::Result<()> {
     match word {
         "addr" => print_addr(rt, alloc, rest),
         "prefix" => print_prefix(rt, alloc, rest),
