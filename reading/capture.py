@@ -2,8 +2,9 @@
 import struct
 from dataclasses import dataclass
 
-# The longest frame, and the longest captured record, in octets.
-LONGEST_FRAME, LONGEST_RECORD = 1518, 262144
+# The longest frame that comes in, the longest one that goes out, at a trunk with a tag more, and the longest captured
+# record, in octets.
+LONGEST_FRAME, LONGEST_FRAME_OUT, LONGEST_RECORD = 1518, 1522, 262144
 
 HEADER = bytes.fromhex("d4c3b2a1020004000000000000000000ffff000001000000")
 
@@ -22,9 +23,9 @@ class Arrival:
     octets: bytes | None
 
 
-def arrivals(octets, is_cut=False):
+def arrivals(octets, is_cut=False, longest=LONGEST_FRAME):
     """What a capture brings: the arrivals, and how it ends ("end", "malformed AT" or "failed"). Where `is_cut` is true these
-    are the octets before a read that failed."""
+    are the octets before a read that failed. A frame has `longest` octets at most."""
     short = "failed" if is_cut else None
     order, per_ms = MAGIC.get(octets[:4].hex(), (None, 1))
     if len(octets) < 24:
@@ -41,7 +42,7 @@ def arrivals(octets, is_cut=False):
         if len(octets) - at - 16 < captured:
             return found, short or f"malformed {at}"
         frame = octets[at + 16 : at + 16 + captured]
-        found.append(Arrival(1000 * seconds + fraction // per_ms, captured, frame if captured <= LONGEST_FRAME else None))
+        found.append(Arrival(1000 * seconds + fraction // per_ms, captured, frame if captured <= longest else None))
         at += 16 + captured
     return found, short or "end"
 

@@ -5,7 +5,8 @@ from dataclasses import replace
 
 from .commands import LONGEST_LINE, RULES
 from .journal import HEAD_NUMBERS, LONGEST
-from .plan import METHODS, ROLES, Plan, PortPlan, is_clash, is_out, key_fault, mac_text, prefix_text, read_mac, read_prefix
+from .plan import DEFAULT_VLAN, METHODS, ROLES, VLANS, Plan, PortPlan, PrefixPlan
+from .plan import is_clash, is_out, key_fault, mac_text, prefix_text, read_mac, read_prefix, read_vlans
 from .switch import LATEST, Switch
 
 LONGEST_FRAME = 1518
@@ -74,6 +75,14 @@ def verdict(word):
     raise BadLine
 
 
+def vlans(words, trunks=True):
+    """What the words behind a port or a prefix say of its VLANs."""
+    found = read_vlans(b"".join(b" " + word for word in words).decode("ascii", "replace"))
+    if found is None or "trunk" in found and not trunks:
+        raise BadLine
+    return found
+
+
 def passing(word):
     """Who an end is of: its kind, and the number of its port or None."""
     if word in (b"control", b"ticker"):
@@ -115,7 +124,7 @@ class History(Switch):
     def is_idle(self, stamp):
         """Whether no address has another state by then."""
         moment = max(self.moment, min(stamp, LATEST))
-        aged = {address: replace(state, first=replace(state.first)) for address, state in self.addresses.items()}
+        aged = {key: replace(state, first=replace(state.first)) for key, state in self.addresses.items()}
         for state in aged.values():
             state.age(moment, self.plan)
         return aged == self.addresses
@@ -188,9 +197,9 @@ class Checker:
         found, prefixes = [], []
         while (line := self.line()) != b"begin":
             words = line.split(b" ")
-            if words[0] == b"port" and len(words) == 4 and not prefixes:
+            if words[0] == b"port" and len(words) in (4, 6) and not prefixes:
                 found.append(self.read_port(found, words))
-            elif words[0] == b"prefix" and len(words) == 3 and found:
+            elif words[0] == b"prefix" and len(words) in (3, 5) and found:
                 prefixes.append(self.read_prefix(prefixes, words))
             else:
                 raise BadLine
@@ -202,17 +211,21 @@ class Checker:
         n, role, form = port(words[1]), text_of(words[2], b"[a-z]+"), text_of(words[3], b"pcap|stream")
         if role not in ROLES or found and n <= found[-1].number:
             raise BadLine
-        return PortPlan(n, role, "", "", form)
+        read = PortPlan(n, role, "", "", form, **vlans(words[4:]))
+        if read.trunk and not read.is_trusted or len({vlan for one in (*found, read) for vlan in one.vlans}) > VLANS:
+            raise BadLine
+        return read
 
     def read_prefix(self, prefixes, words):
         text, method = text_of(words[1], b"[0-9a-f:/]+"), text_of(words[2], b"[a-z]+")
         found = read_prefix(text)
         if found is None or prefix_text(*found) != text or method not in METHODS or is_out(len(prefixes), 0, 31):
             raise BadLine
-        nets = [row[:2] for row in prefixes] + [found]
-        if nets != sorted(nets) or is_clash(nets):
+        read = PrefixPlan(vlans(words[3:], trunks=False).get("vlan", DEFAULT_VLAN), *found, method)
+        read_so_far = [*prefixes, read]
+        if read_so_far != sorted(read_so_far) or is_clash(read_so_far):
             raise BadLine
-        return (*found, method)
+        return read
 
     # The segments.
 

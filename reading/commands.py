@@ -2,7 +2,7 @@
 import re
 from dataclasses import dataclass
 
-from .plan import address_text, mac_text, read_address
+from .plan import address_text, key_text, mac_text, read_address, read_key
 
 LONGEST_LINE = 120
 
@@ -41,9 +41,9 @@ def read_port(word):
     return int(word) if re.fullmatch(rb"[1-9]|1[0-6]", word) else None
 
 
-def read_word(word):
+def read_word(word, read=read_address):
     try:
-        return read_address(word.decode("ascii"))
+        return read(word.decode("ascii"))
     except UnicodeDecodeError:
         return None
 
@@ -68,15 +68,16 @@ def quit_(switch):
 
 
 def clear(switch, word):
-    address = read_word(word)
-    if address is None:
+    key = read_word(word, read_key)
+    if key is None or not switch.plan.members(key[0]):
         return "error: bad address"
-    if switch.addresses.pop(address, None) is None:
+    if switch.addresses.pop(key, None) is None:
         return "error: no binding"
     return "ok"
 
 
 def static(switch, word, number):
+    """The address is one of the port's VLAN."""
     address, port = read_word(word), read_port(number)
     if address is None:
         return "error: bad address"
@@ -86,13 +87,14 @@ def static(switch, word, number):
         return "error: no such port"
     if port in switch.trusted:
         return "error: trusted port"
-    if not switch.is_on_link(address):
+    key = (switch.ports[port].vlan, address)
+    if not switch.is_on_link(*key):
         return "error: off-link"
-    state = switch.state(address)
+    state = switch.state(key)
     if not state.holds(port) and not switch.has_room(port):
         return "error: port full"
     state.fix(port)
-    switch.keep(address, state)
+    switch.keep(key, state)
     return "ok"
 
 
@@ -120,8 +122,8 @@ def moment_text(moment):
 
 def show_bindings(switch):
     rows = []
-    for address, state in sorted(switch.addresses.items()):
-        name = address_text(address)
+    for (vlan, address), state in sorted(switch.addresses.items()):
+        name = key_text(vlan, address_text(address))
         if state.fixed is not None:
             rows.append(f"{name} {state.fixed} static - -")
         if state.bound:
@@ -135,7 +137,7 @@ def show_bindings(switch):
 
 def show_ports(switch):
     def row(n, port):
-        requests = sum(key[0] == n for key in switch.requests)
+        requests = sum(key[1] == n for key in switch.requests)
         up = "down" if n in switch.shut else "up"
         return f"{n} {port.role} {up} {switch.held(n)} {requests} {len(switch.queues[n])}"
 
@@ -147,5 +149,5 @@ def show_counters(switch):
 
 
 def show_stations(switch):
-    live = sorted((mac, port, last) for mac, (port, last) in switch.stations.items() if switch.is_live(mac))
-    return [f"{mac_text(mac)} {port} {last + switch.station_time}" for mac, port, last in live]
+    live = sorted((*key, port, last) for key, (port, last) in switch.stations.items() if switch.is_live(key))
+    return [f"{key_text(vlan, mac_text(mac))} {port} {last + switch.station_time}" for vlan, mac, port, last in live]

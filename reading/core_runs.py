@@ -12,7 +12,7 @@ class Machine(Switch):
     def is_idle(self, stamp):
         """Whether no address has another state by the moment of a tick."""
         moment = max(self.moment, min(stamp, LATEST))
-        aged = {address: replace(state) for address, state in self.addresses.items()}
+        aged = {key: replace(state) for key, state in self.addresses.items()}
         for state in aged.values():
             state.age(moment, self.plan)
         return aged == self.addresses

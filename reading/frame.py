@@ -1,13 +1,17 @@
-"""What a frame is, and the rules on messages (docs/RULES.md, rules 2 to 13): Ethernet, IPv6 (RFC 8200), neighbor discovery
-(RFC 4861), UDP."""
+"""What a frame is, and the rules on messages (docs/RULES.md, rules 2 to 13): Ethernet with VLANs (IEEE 802.1Q), IPv6 (RFC
+8200), neighbor discovery (RFC 4861), UDP."""
 from dataclasses import dataclass
 
 from .capture import LONGEST_FRAME
 from .dhcp import Message, read_message
-from .plan import MULTICAST, lies_in, read_address
+from .plan import LAST_VLAN, MULTICAST, lies_in, read_address
 
 ETHERTYPE_IPV6 = 0x86DD
-ETHERTYPES_OF_TAGS = (0x8100, 0x88A8)
+ETHERTYPE_CUSTOMER_TAG, ETHERTYPE_SERVICE_TAG = 0x8100, 0x88A8
+ETHERTYPES_OF_TAGS = (ETHERTYPE_CUSTOMER_TAG, ETHERTYPE_SERVICE_TAG)
+
+# A tag that names no VLAN, or has another one behind it, or is cut short.
+BAD_TAG = "bad"
 
 HOP_BY_HOP, FRAGMENT, AUTHENTICATION = 0, 44, 51
 # Routing, destination options, mobility, HIP, Shim6: headers whose length octet counts units of 8 octets behind the first.
@@ -85,10 +89,12 @@ class Packet:
 
 @dataclass
 class Frame:
-    """`packet` is None where the frame isn't IPv6, or its IPv6 header is at fault."""
+    """`tag` is None, the number of a VLAN, or BAD_TAG. `kind`, the EtherType, and `packet` are those of the frame without
+    the tag of its VLAN; `packet` is None where that isn't IPv6, or its IPv6 header is at fault."""
 
     destination: int
     source: int
+    tag: int | str | None
     kind: int
     packet: Packet | None = None
 
@@ -98,13 +104,38 @@ class Frame:
 
 
 def read_frame(octets):
-    """The frame, or None where it is too short or too long."""
+    """The frame, or None where it is too short or too long, with its tag if it has one."""
     if not 14 <= len(octets) <= LONGEST_FRAME:
         return None
-    frame = Frame(number(octets[:6]), number(octets[6:12]), number(octets[12:14]))
+    tag, inner = read_tag(octets), inner_frame(octets)
+    frame = Frame(number(inner[:6]), number(inner[6:12]), tag, number(inner[12:14]))
     if frame.is_ipv6:
-        frame.packet = read_packet(octets[14:])
+        frame.packet = read_packet(inner[14:])
     return frame
+
+
+def read_tag(octets):
+    """IEEE 802.1Q section 9.6: the VLAN is the low 12 bits behind the EtherType of a tag. One that gives a priority alone
+    (VLAN 0), VLAN 4095 and two tags are none that a switch of VLANs takes from others here."""
+    kind = number(octets[12:14])
+    if kind not in ETHERTYPES_OF_TAGS:
+        return None
+    vlan = number(octets[14:16]) & 0xFFF
+    is_good = (
+        kind == ETHERTYPE_CUSTOMER_TAG and len(octets) >= 18 and 1 <= vlan <= LAST_VLAN
+        and number(octets[16:18]) not in ETHERTYPES_OF_TAGS
+    )
+    return vlan if is_good else BAD_TAG
+
+
+def inner_frame(octets):
+    """A frame without the tag of its VLAN."""
+    return octets if read_tag(octets) in (None, BAD_TAG) else octets[:12] + octets[16:]
+
+
+def tagged_frame(vlan, octets):
+    """A frame without a tag, with that of a VLAN, which gives no priority."""
+    return octets[:12] + ETHERTYPE_CUSTOMER_TAG.to_bytes(2, "big") + vlan.to_bytes(2, "big") + octets[12:]
 
 
 def read_packet(octets):
@@ -219,19 +250,18 @@ def is_reserved(mac):
     return mac >> 4 == 0x0180C200000
 
 
-def guard(role, drop_unknown, frame):
-    """The first of rules 2 to 13 that a frame breaks, or None. `frame` is None where it is too short or too long."""
+def guard(port, drop_unknown, frame):
+    """The first of rules 2 to 13 that a frame breaks at a port, or None. `frame` is None where it is too short or too
+    long."""
     if frame is None:
         return "Malformed"
     if is_reserved(frame.destination):
         return "ReservedGroup"
     if frame.source >> 40 & 1:
         return "SourceMac"
-    if role == "trusted":
-        return None
-    if frame.kind in ETHERTYPES_OF_TAGS:
+    if port.vlan_of(frame.tag) is None:
         return "Tagged"
-    return guard_packet(role, drop_unknown, frame.packet) if frame.is_ipv6 else None
+    return guard_packet(port.role, drop_unknown, frame.packet) if frame.is_ipv6 and not port.is_trusted else None
 
 
 def guard_packet(role, drop_unknown, packet):

@@ -4,7 +4,7 @@ import re
 from dataclasses import dataclass
 
 from .commands import RULES
-from .plan import Plan, PortPlan, key_fault, list_fault, read_address, read_mac, read_prefix
+from .plan import Plan, key_fault, list_fault, planned_ports, planned_prefixes, read_key, read_mac, read_vlans
 
 # The longest line, in octets without its line feed: an entry with a frame of 1,518 octets, and more than the rest can take.
 LONGEST = 3400
@@ -33,7 +33,7 @@ FORMS = {
     "E": form("(control|ticker|in[0-9]+|out[0-9]+)", "(end|quit|failed|unwritten|paused|(?:malformed|overlong) [0-9]+)"),
 }
 # What a segment goes on from, line by line.
-KEY, TWO = "[0-9a-f:.]+", "(?:yes|no)"
+KEY, TWO = "[0-9a-f:.]+(?:@[1-9][0-9]*)?", "(?:yes|no)"
 BASE = form("(?:" + "|".join((
     f"moment {NUMBER}", f"shut {SET}", f"count [A-Za-z0-9]+ {NUMBER}", f"fixed {KEY} {NUMBER}", f"bound {KEY} {NUMBER} (?:-|{NUMBER})",
     f"fcfs {KEY} (?:valid {NUMBER} (?:-|{NUMBER})|(?:tentative|testing-lt|testing-vp {NUMBER}) {NUMBER} {NUMBER} {TWO})",
@@ -110,6 +110,7 @@ class Journal:
         self.plan = self.read_head()
         numbers = [port.number for port in self.plan.ports]
         self.ports = frozenset(numbers)
+        self.vlans = frozenset(vlan for port in self.plan.ports for vlan in port.vlans)
         whos = [f"in{n}" for n in numbers] + ["control", "ticker"] + [f"out{n}" for n in numbers]
         self.passes = {who: by for by, who in enumerate(whos)}
         for at, line in enumerate(self.base, self.at - len(self.base)):
@@ -121,11 +122,16 @@ class Journal:
         if words[0] == "shut":
             return (found := read_set(words[1])) is not None and self.ports.issuperset(found)
         if words[0] == "request":
-            return int(words[2]) in self.ports and len(words[4]) % 2 == (words[4] == "-")
+            is_of_plan = int(words[1]) in self.vlans and int(words[2]) in self.ports
+            return is_of_plan and len(words[4]) % 2 == (words[4] == "-")
+        if words[0] == "station":
+            key = read_key(words[1], read_mac)
+            return key is not None and key[0] in self.vlans and int(words[2]) in self.ports
         if words[0] not in ("fixed", "bound", "fcfs"):
             return True
         ports = words[3:5] if words[2] == "testing-vp" else words[3:4] if words[0] == "fcfs" else words[2:3]
-        return read_address(words[1]) is not None and self.ports.issuperset(map(int, ports))
+        key = read_key(words[1])
+        return key is not None and key[0] in self.vlans and self.ports.issuperset(map(int, ports))
 
     def fail(self, what):
         raise Fault(self.at, what)
@@ -169,8 +175,7 @@ class Journal:
             mac=read_mac(top["mac"]), journal="", savi=top["savi"] == "on", drop_unknown=top["unknown"] == "drop",
             per_port=top["per_port"], depth=top["depth"], entries=top["entries"], bytes=top["bytes"],
             gap=top["probe_gap_ms"], test=top["test_ms"], life=life,
-            ports=[PortPlan(port["number"], port["role"], "", "", port["format"]) for port in ports],
-            prefixes=[(*read_prefix(prefix["prefix"]), prefix["method"]) for prefix in prefixes],
+            ports=planned_ports([port | {"input": "", "output": ""} for port in ports]), prefixes=planned_prefixes(prefixes),
         )
 
     def read_lists(self):
@@ -180,12 +185,13 @@ class Journal:
             if self.version == 2 and ports and (self.base or line.startswith("moment ")):
                 self.base.append(self.base_line(line))
                 continue
-            port = re.fullmatch("port ([1-9][0-9]?) ([a-z]+) (pcap|stream)", line, re.ASCII)
-            prefix = re.fullmatch("prefix ([0-9a-f:]+/[0-9]+) ([a-z]+)", line, re.ASCII)
-            if port and not prefixes:
-                ports.append({"number": int(port[1]), "role": port[2], "format": port[3]})
-            elif prefix and ports:
-                prefixes.append({"prefix": prefix[1], "method": prefix[2]})
+            port = re.fullmatch("port ([1-9][0-9]?) ([a-z]+) (pcap|stream)( .*)?", line, re.ASCII)
+            prefix = re.fullmatch("prefix ([0-9a-f:]+/[0-9]+) ([a-z]+)( vlan .*)?", line, re.ASCII)
+            vlans = read_vlans((port and port[4] or prefix and prefix[3]) or "")
+            if port and not prefixes and vlans is not None:
+                ports.append({"number": int(port[1]), "role": port[2], "format": port[3]} | vlans)
+            elif prefix and ports and vlans is not None:
+                prefixes.append({"prefix": prefix[1], "method": prefix[2]} | vlans)
             else:
                 self.fail(f"a port, a prefix or `begin` is expected, and here stands {shown(line)}")
         return ports, prefixes

@@ -3,7 +3,7 @@ from captures prints. It goes over whole lists: all arrivals, then what was seen
 from dataclasses import dataclass
 
 from .frame import ROUTER_ADVERTISEMENT, checksum, number, read_frame, read_options
-from .plan import LINK_LOCAL, MULTICAST, address_text, lies_in, overlap
+from .plan import DEFAULT_VLAN, LINK_LOCAL, MULTICAST, address_text, lies_in, overlap
 
 LAST_MOMENT = 1 << 62
 HOP_LIMIT = 255
@@ -45,10 +45,10 @@ def in_order(plan, captures):
 
 
 def read_advert(octets):
-    """The router advertisement that a frame carries and that isn't behind a fragment header: (packet, what it says or None), or
-    None where it carries none."""
+    """The router advertisement that a frame without a tag carries and that isn't behind a fragment header: (packet, what it
+    says or None), or None where it carries none."""
     frame = read_frame(octets)
-    packet = frame.packet if frame else None
+    packet = frame.packet if frame and frame.tag is None else None
     if packet is None or packet.icmp != ROUTER_ADVERTISEMENT or packet.is_fragmented:
         return None
     return packet, good_advert(packet)
@@ -81,13 +81,16 @@ def prefixes(octets):
 
 
 class Learned:
-    """What all arrivals of a plan come to, with a window of so many ms."""
+    """What all arrivals of a plan come to, with a window of so many ms. It is learned at access ports of the default VLAN
+    alone, of frames without a tag."""
 
     def __init__(self, plan, captures, window):
         self.plan = plan
-        self.trusted = {port.number for port in plan.ports if port.is_trusted}
+        self.ports = [port for port in plan.ports if not port.trunk and port.vlan == DEFAULT_VLAN]
+        self.trusted = {port.number for port in self.ports if port.is_trusted}
         arrivals = in_order(plan, captures)
-        frames = [arrival for arrival in arrivals if arrival[2] is not None]
+        numbers = {port.number for port in self.ports}
+        frames = [arrival for arrival in arrivals if arrival[2] is not None and arrival[1] in numbers]
         self.end = frames[0][0] + window if frames else None
         self.last = arrivals[-1][0] if arrivals else 0
         self.seen = [
@@ -97,7 +100,7 @@ class Learned:
         self.tables()
 
     def acceptable(self, port, advert):
-        known = {(net, length) for net, length, _ in self.plan.prefixes}
+        known = {prefix[1:3] for prefix in self.plan.prefixes if prefix.vlan == DEFAULT_VLAN}
         return port in self.trusted or all((net, length) in known for net, length, _ in advert.prefixes)
 
     def state(self, port, moment):
@@ -137,7 +140,7 @@ class Learned:
         """What is printed, line by line."""
         for one in self.seen:
             yield f"advert {one.moment} {one.port} {'pass' if self.passes(one) else 'drop'}"
-        for port in self.plan.ports:
+        for port in self.ports:
             yield f"port {port.number} {self.state(port.number, self.last)}"
         for (source, port), until in standing(self.routers, self.last):
             yield f"router {address_text(source)} {port} {until}"

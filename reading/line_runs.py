@@ -3,7 +3,7 @@ import re
 
 from .commands import RULES
 from .journal import ENTRY, FORMS, read_set
-from .plan import METHODS, ROLES, mac_text, prefix_text, read_mac, read_prefix
+from .plan import DEFAULT_VLAN, METHODS, ROLES, VLANS, PrefixPlan, mac_text, prefix_text, read_mac, read_prefix, read_vlans
 
 # The ends of a number's field; of a frame's octets, and of a command's.
 WORD, COUNT, FRAME, COMMAND = 2**64, 2**32, 1518, 120
@@ -117,30 +117,31 @@ def line(text):
 
 
 def told_port(line, before):
-    match = re.fullmatch("port ([1-9][0-9]?) ([a-z]+) (pcap|stream)", line, re.ASCII)
-    if not match or int(match[1]) > PORTS or match[2] not in ROLES:
+    match = re.fullmatch("port ([1-9][0-9]?) ([a-z]+) (pcap|stream)( .*)?", line, re.ASCII)
+    vlans = read_vlans(match[4] or "") if match else None
+    if vlans is None or int(match[1]) > PORTS or match[2] not in ROLES or len(vlans.get("trunk", ())) > VLANS:
         return None
     last = re.fullmatch("port ([0-9]+) .*", before)
     if last and int(last[1]) >= int(match[1]):
         return None
-    return f"({port(match[1])}, {match[2].capitalize()}, {match[3].capitalize()})"
+    vlan = f"Trunk({list(vlans['trunk'])})" if "trunk" in vlans else f"Access({vlans.get('vlan', DEFAULT_VLAN)})"
+    return f"({port(match[1])}, {match[2].capitalize()}, {match[3].capitalize()}, {vlan})"
 
 
 def prefix_of(line):
-    """The prefix of a line, where it is in its one spelling, and the method."""
-    match = re.fullmatch("prefix ([^ ]+) ([a-z]+)", line, re.ASCII)
-    prefix = read_prefix(match[1]) if match else None
-    if prefix is None or prefix_text(*prefix) != match[1] or match[2] not in METHODS:
+    """The prefix of a line, where it is in its one spelling."""
+    match = re.fullmatch("prefix ([^ ]+) ([a-z]+)( vlan .*)?", line, re.ASCII)
+    prefix, vlans = (read_prefix(match[1]), read_vlans(match[3] or "")) if match else (None, None)
+    if prefix is None or vlans is None or prefix_text(*prefix) != match[1] or match[2] not in METHODS:
         return None
-    return *prefix, match[2]
+    return PrefixPlan(vlans.get("vlan", DEFAULT_VLAN), *prefix, match[2])
 
 
 def told_prefix(line, before):
     found, last = prefix_of(line), prefix_of(before)
-    if found is None or last and last[0] + (1 << (128 - last[1])) > found[0]:
+    if found is None or last and (last.vlan, last.net + (1 << (128 - last.length))) > (found.vlan, found.net):
         return None
-    net, length, method = found
-    return f"(Prefix {{ net: Addr({net}), len: {length} }}, {method.capitalize()})"
+    return f"(Prefix {{ net: Addr({found.net}), len: {found.length} }}, {found.method.capitalize()}, {found.vlan})"
 
 
 def told_mac(line):

@@ -1,6 +1,7 @@
 """The configuration of a switch, and the texts of addresses (docs/CONFIGURATION.md)."""
 import re
 from dataclasses import dataclass, field
+from typing import NamedTuple
 
 from .toml_text import TomlFault, read_toml
 
@@ -10,21 +11,26 @@ LONGEST = 65536
 ROLES = ("host", "server", "trusted")
 METHODS = ("fcfs", "dhcp", "mixed")
 
-# The kinds of values: a text, a whole number, an array of tables.
-TEXT, WHOLE, TABLES = "text", "whole number", "tables"
+# The kinds of values: a text, a whole number, an array of these, an array of tables.
+TEXT, WHOLE, WHOLES, TABLES = "text", "whole number", "whole numbers", "tables"
 
 TOP_KEYS = {
     "mac": TEXT, "journal": TEXT, "control": TEXT, "control_out": TEXT, "savi": TEXT, "unknown": TEXT,
     "per_port": WHOLE, "depth": WHOLE, "entries": WHOLE, "bytes": WHOLE, "probe_gap_ms": WHOLE, "test_ms": WHOLE,
     "binding_s": WHOLE, "port": TABLES, "prefix": TABLES,
 }
-PORT_KEYS = {"number": WHOLE, "role": TEXT, "input": TEXT, "output": TEXT, "format": TEXT}
-PREFIX_KEYS = {"prefix": TEXT, "method": TEXT}
+PORT_KEYS = {
+    "number": WHOLE, "role": TEXT, "input": TEXT, "output": TEXT, "format": TEXT, "vlan": WHOLE, "trunk": WHOLES,
+}
+PREFIX_KEYS = {"prefix": TEXT, "method": TEXT, "vlan": WHOLE}
 
 DEFAULTS = {
     "savi": "on", "unknown": "drop", "per_port": 32, "depth": 256, "entries": 262144, "bytes": 67108864,
     "probe_gap_ms": 250, "test_ms": 500, "binding_s": 300,
 }
+
+# The VLAN of a port or a prefix that names none (IEEE 802.1Q table 9-2), the last one, and how many a plan may have.
+DEFAULT_VLAN, LAST_VLAN, VLANS = 1, 4094, 8
 
 LINK_LOCAL = (0xFE80 << 112, 64)  # fe80::/64
 MULTICAST = (0xFF << 120, 8)  # ff00::/8
@@ -36,20 +42,44 @@ class ConfigFault(Exception):
 
 @dataclass
 class PortPlan:
+    """A port is an access port of the VLAN `vlan`, or has the VLANs of `trunk`, which are in rising order."""
+
     number: int
     role: str
     input: str
     output: str
     format: str = "pcap"
+    vlan: int = DEFAULT_VLAN
+    trunk: tuple = ()
 
     @property
     def is_trusted(self):
         return self.role == "trusted"
 
+    @property
+    def vlans(self):
+        """The VLANs that the port is a member of."""
+        return self.trunk or (self.vlan,)
+
+    def vlan_of(self, tag):
+        """The VLAN of a frame that comes in here with a tag as in frame.py, or None where it has none."""
+        if self.trunk:
+            return tag if tag in self.trunk else None
+        return self.vlan if tag is None else None
+
+
+class PrefixPlan(NamedTuple):
+    """In the order in which a plan has them."""
+
+    vlan: int
+    net: int
+    length: int
+    method: str
+
 
 @dataclass
 class Plan:
-    """The times `gap`, `test` and `life` are in ms. A prefix is (address, length, method)."""
+    """The times `gap`, `test` and `life` are in ms."""
 
     mac: int
     journal: str
@@ -66,11 +96,16 @@ class Plan:
     ports: list = field(default_factory=list)
     prefixes: list = field(default_factory=list)
 
-    def method(self, address):
-        """The method of an address that is on-link, else None."""
+    def method(self, vlan, address):
+        """The method of an address that is on-link in a VLAN, else None."""
         if lies_in(address, LINK_LOCAL):
             return "fcfs"
-        return next((method for net, length, method in self.prefixes if lies_in(address, (net, length))), None)
+        found = (prefix.method for prefix in self.prefixes if prefix.vlan == vlan and lies_in(address, prefix[1:3]))
+        return next(found, None)
+
+    def members(self, vlan):
+        """The numbers of the ports of a VLAN: its access ports, and the trunks that list it."""
+        return [port.number for port in self.ports if vlan in port.vlans]
 
 
 def lies_in(address, prefix):
@@ -141,11 +176,50 @@ def prefix_text(net, length):
     return f"{address_text(net)}/{length}"
 
 
+def key_text(vlan, text):
+    """The text of an address or a MAC address of a VLAN."""
+    return text if vlan == DEFAULT_VLAN else f"{text}@{vlan}"
+
+
+def read_key(text, read=read_address):
+    """The VLAN and the address of a key, or None; with `read_mac` those of a MAC address."""
+    word, at, vlan = text.partition("@")
+    found = read(word)
+    if found is None or at and not (re.fullmatch("[1-9][0-9]{0,3}", vlan, re.ASCII) and 2 <= int(vlan) <= LAST_VLAN):
+        return None
+    return int(vlan) if at else DEFAULT_VLAN, found
+
+
+def port_text(port):
+    """What a journal says of a port's VLANs: nothing of an access port of the default one."""
+    if port.trunk:
+        return f" trunk {','.join(map(str, port.trunk))}"
+    return vlan_text(port.vlan)
+
+
+def vlan_text(vlan):
+    return "" if vlan == DEFAULT_VLAN else f" vlan {vlan}"
+
+
+def read_vlans(text):
+    """What `port_text` or `vlan_text` writes, as keys and values of a configuration; None for any other text."""
+    match = re.fullmatch(" (vlan|trunk) ([1-9][0-9]{0,3}(?:,[1-9][0-9]{0,3})*)", text, re.ASCII)
+    if not match:
+        return None if text else {}
+    found = tuple(map(int, match[2].split(",")))
+    if match[1] == "trunk":
+        return {"trunk": found} if not is_no_trunk(found) and list(found) == sorted(found) else None
+    is_told = len(found) == 1 and found[0] != DEFAULT_VLAN and not is_no_vlan(found[0])
+    return {"vlan": found[0]} if is_told else None
+
+
 def is_of_kind(value, kind):
     if kind == TEXT:
         return isinstance(value, str)
     if kind == WHOLE:
         return isinstance(value, int) and not isinstance(value, bool)
+    if kind == WHOLES:
+        return isinstance(value, list) and all(is_of_kind(item, WHOLE) for item in value)
     return isinstance(value, list) and all(isinstance(item, dict) for item in value)
 
 
@@ -204,27 +278,52 @@ def key_fault(top):
     return next((number for number, holds in tests if holds), None)
 
 
+# What no prefix of a plan may have: link-local addresses, groups, `::` and `::1`.
+RESERVED = (LINK_LOCAL, MULTICAST, (0, 128), (1, 128))
+
+
 def is_clash(prefixes):
-    """Two overlap, or one has an address that no prefix of a plan may have: those of fe80::/64 and ff00::/8, :: and ::1."""
-    reserved = [LINK_LOCAL, MULTICAST, (0, 128), (1, 128)]
-    return any(
-        overlap(prefix, other) for at, prefix in enumerate(prefixes) for other in prefixes[at + 1 :] + reserved
+    """Two of one VLAN overlap, or one has an address that no prefix of a plan may have. A prefix begins by VLAN, address and
+    length."""
+    return any(overlap(prefix[1:3], other) for prefix in prefixes for other in RESERVED) or any(
+        one[0] == other[0] and overlap(one[1:3], other[1:3])
+        for at, one in enumerate(prefixes) for other in prefixes[at + 1 :]
     )
 
 
+def is_no_vlan(vlan):
+    return is_out(vlan, 1, LAST_VLAN)
+
+
+def is_no_trunk(trunk):
+    """No VLAN, one twice, or one that is none."""
+    return not trunk or len(set(trunk)) < len(trunk) or any(map(is_no_vlan, trunk))
+
+
+def vlans_of(ports):
+    """The VLANs of all ports, as a configuration has these."""
+    return {vlan for port in ports for vlan in port.get("trunk", (port.get("vlan", DEFAULT_VLAN),))}
+
+
 def list_fault(ports, prefixes, streams=False):
-    """Faults 13 to 20: ports and prefixes. `streams` permits ports that read them."""
+    """Faults 13 to 24: ports and prefixes. `streams` permits ports that read them."""
     numbers = [port["number"] for port in ports]
     read = [read_prefix(prefix["prefix"]) for prefix in prefixes]
+    vlans = [prefix.get("vlan", DEFAULT_VLAN) for prefix in prefixes]
+    trunks = [port for port in ports if "trunk" in port]
     tests = (
         (13, lambda: is_out(len(ports), 1, 16)),
         (14, lambda: any(is_out(n, 1, 16) for n in numbers) or len(set(numbers)) < len(numbers)),
         (15, lambda: any(port["role"] not in ROLES for port in ports)),
         (16, lambda: any(port.get("format", "pcap") not in ("pcap", "stream") for port in ports)),
         (17, lambda: len(prefixes) > 32 or None in read),
-        (18, lambda: is_clash(read)),
+        (18, lambda: is_clash([(vlan, *prefix) for vlan, prefix in zip(vlans, read)])),
         (19, lambda: any(prefix["method"] not in METHODS for prefix in prefixes)),
         (20, lambda: not streams and any(port.get("format") == "stream" for port in ports)),
+        (22, lambda: any(map(is_no_vlan, vlans + [port.get("vlan", DEFAULT_VLAN) for port in ports]))
+            or any("vlan" in port or is_no_trunk(port["trunk"]) for port in trunks)),
+        (23, lambda: any(port["role"] != "trusted" for port in trunks)),
+        (24, lambda: len(vlans_of(ports)) > VLANS),
     )
     return next((number for number, holds in tests if holds()), None)
 
@@ -242,11 +341,23 @@ def read_plan(octets, streams=False):
     fault = fault or list_fault(document["port"], document.get("prefix", []), streams)
     if fault:
         raise ConfigFault(f"config fault {fault}")
-    ports = sorted((PortPlan(**port) for port in document["port"]), key=lambda port: port.number)
-    prefixes = sorted((*read_prefix(prefix["prefix"]), prefix["method"]) for prefix in document.get("prefix", []))
     return Plan(
         mac=read_mac(top["mac"]), journal=top["journal"], savi=top["savi"] == "on",
         drop_unknown=top["unknown"] == "drop", per_port=top["per_port"], depth=top["depth"], entries=top["entries"],
         bytes=top["bytes"], gap=top["probe_gap_ms"], test=top["test_ms"], life=1000 * top["binding_s"],
-        control=(top["control"], top["control_out"]) if "control" in top else None, ports=ports, prefixes=prefixes,
+        control=(top["control"], top["control_out"]) if "control" in top else None,
+        ports=planned_ports(document["port"]), prefixes=planned_prefixes(document.get("prefix", [])),
+    )
+
+
+def planned_ports(ports):
+    """The ports of a plan, of those of a configuration without fault."""
+    found = (PortPlan(**port | {"trunk": tuple(sorted(port.get("trunk", ())))}) for port in ports)
+    return sorted(found, key=lambda port: port.number)
+
+
+def planned_prefixes(prefixes):
+    """The prefixes of a plan, likewise."""
+    return sorted(
+        PrefixPlan(prefix.get("vlan", DEFAULT_VLAN), *read_prefix(prefix["prefix"]), prefix["method"]) for prefix in prefixes
     )

@@ -3,7 +3,7 @@
 from dataclasses import dataclass, field
 
 from . import capture, commands
-from .plan import mac_text, prefix_text
+from .plan import mac_text, port_text, prefix_text, vlan_text
 from .states import Scope
 from .switch import Switch
 
@@ -190,6 +190,6 @@ def head(plan):
         f"unknown {'drop' if plan.drop_unknown else 'pass'}", f"per_port {plan.per_port}", f"depth {plan.depth}",
         f"entries {plan.entries}", f"bytes {plan.bytes}", f"gap {plan.gap}", f"test {plan.test}", f"binding {plan.life}",
     ]
-    lines += [f"port {port.number} {port.role} {port.format}" for port in plan.ports]
-    lines += [f"prefix {prefix_text(net, length)} {method}" for net, length, method in plan.prefixes]
+    lines += [f"port {port.number} {port.role} {port.format}{port_text(port)}" for port in plan.ports]
+    lines += [f"prefix {prefix_text(net, length)} {method}{vlan_text(vlan)}" for vlan, net, length, method in plan.prefixes]
     return "".join(f"{line}\n" for line in lines)

@@ -3,9 +3,9 @@ import collections
 from dataclasses import dataclass, field
 
 from . import commands
-from .plan import address_text, mac_text
+from .plan import address_text, key_text, mac_text
 from .frame import ADVERTISEMENT, DHCP_CLIENT, DHCP_SERVER, ICMPV6, MLD_OF_HOSTS, ROUTER_SOLICITATION, SOLICITED_NODES
-from .frame import guard, internet_sum, read_frame
+from .frame import guard, inner_frame, internet_sum, read_frame, tagged_frame
 from .dhcp import DECLINE, RELEASE, REPLY
 from .states import ALL, DAD, NA, NONE, SENT, TEST_CLAIM, TRUSTED, TRUSTED_DAD, TRUSTED_NA, TRUSTED_ONLY, VALID
 from .states import Address, Scope
@@ -14,7 +14,7 @@ from .states import Address, Scope
 ENTRIES_KEPT, OCTETS_KEPT = 4130, 1518
 LATEST = 2**62
 
-# How long a request stays open, and a station known, in ms; how many of them a port may have.
+# How long a request stays open, and a station known, in ms; how many of them a port may have, of stations in each VLAN.
 REQUEST_TIME, STATION_TIME = 120000, 300000
 REQUESTS, STATIONS = 16, 256
 
@@ -77,7 +77,8 @@ def probe_frame(mac, target):
 
 
 class Switch:
-    """`floods` makes it a switch that knows no station."""
+    """Addresses are kept by (VLAN, address), requests by (VLAN, port, transaction, client), and stations by (VLAN, MAC
+    address). What waits in a queue is as it goes out there. `floods` makes it a switch that knows no station."""
 
     station_time = STATION_TIME
 
@@ -115,24 +116,26 @@ class Switch:
         self.moment = max(self.moment, min(stamp, LATEST))
         self.probes = self.lost = 0
         due = []
-        for address, state in self.addresses.items():
-            due += [(at, address, probe) for at, probe in state.age(self.moment, self.plan)]
+        for key, state in self.addresses.items():
+            due += [(at, key, probe) for at, probe in state.age(self.moment, self.plan)]
         self.forget()
-        for at, address, probe in sorted(due, key=lambda item: item[:2]):
-            self.queue_probe(probe, address, at)
+        for at, key, probe in sorted(due, key=lambda item: item[:2]):
+            self.queue_probe(probe, key, at)
 
     def forget(self):
-        self.addresses = {address: state for address, state in self.addresses.items() if not state.is_free}
+        self.addresses = {key: state for key, state in self.addresses.items() if not state.is_free}
         self.requests = {key: until for key, until in self.requests.items() if until > self.moment}
 
     def frame(self, port, stamp, octets):
         self.begin(stamp)
         frame = read_frame(octets)
         verdict = self.judge(self.ports[port], frame)
-        outs = self.outs(port, frame, verdict) if isinstance(verdict, Scope) else []
+        outs = cuts = []
         if isinstance(verdict, Scope):
-            self.learn(frame.source, port)
-        cuts = [out for out in outs if not self.queue(out, (self.moment, octets))]
+            vlan = self.ports[port].vlan_of(frame.tag)
+            outs = self.outs(port, vlan, frame.destination, verdict)
+            self.learn((vlan, frame.source), port)
+            cuts = [out for out in outs if not self.queue(out, self.moment, vlan, inner_frame(octets))]
         sets = f"{set_text(outs)} {set_text(cuts)}"
         text = f"F {port} {stamp} {digits(octets)} {verdict_text(verdict)} {sets} {self.probes} {self.lost}"
         self.enter(self.ingress_pass[port], text, verdict=verdict, cuts=cuts, probes=self.probes, lost=self.lost)
@@ -175,13 +178,15 @@ class Switch:
         yield f"moment {self.moment}"
         yield f"shut {set_text(sorted(self.shut))}"
         yield from (f"count {row}" for row in commands.show_counters(self))
-        for address, state in sorted(self.addresses.items()):
-            yield from state_lines(address_text(address), state)
-        for (port, transaction, client), until in sorted(self.requests.items(), key=lambda item: item[0][1:]):
-            yield f"request 1 {port} {transaction} {digits(client)} {until}"
-        for mac, (port, last) in sorted(self.stations.items()):
-            if self.is_live(mac):
-                yield f"station {mac_text(mac)} {port} {last}"
+        for (vlan, address), state in sorted(self.addresses.items()):
+            yield from state_lines(key_text(vlan, address_text(address)), state)
+        by_client = sorted((vlan, transaction, client, port, until)
+                           for (vlan, port, transaction, client), until in self.requests.items())
+        for vlan, transaction, client, port, until in by_client:
+            yield f"request {vlan} {port} {transaction} {digits(client)} {until}"
+        for (vlan, mac), (port, last) in sorted(self.stations.items()):
+            if self.is_live((vlan, mac)):
+                yield f"station {key_text(vlan, mac_text(mac))} {port} {last}"
         yield from (f"ended {who} {how}" for _, (who, how) in sorted(self.ended.items()))
 
     def end_output(self, port, how):
@@ -191,47 +196,54 @@ class Switch:
 
     # Queues, stations, outs.
 
-    def queue(self, port, item):
+    def queue(self, port, moment, vlan, octets):
+        """Puts a frame of a VLAN, without its tag, into the queue of a port: there it has one where the port is a trunk."""
         has_place = port not in self.closed and len(self.queues[port]) < self.plan.depth
         if has_place:
-            self.queues[port].append(item)
+            self.queues[port].append((moment, tagged_frame(vlan, octets) if self.ports[port].trunk else octets))
         return has_place
 
-    def queue_probe(self, probe, address, due):
-        for port in self.trusted if probe == TRUSTED else [probe]:
+    def queue_probe(self, probe, key, due):
+        vlan, address = key
+        asked = [port for port in self.plan.members(vlan) if port in self.trusted] if probe == TRUSTED else [probe]
+        for port in asked:
             if port in self.shut:
                 continue
-            if self.queue(port, (due, probe_frame(self.plan.mac, address))):
+            if self.queue(port, due, vlan, probe_frame(self.plan.mac, address)):
                 self.probes += 1
             else:
                 self.lost += 1
 
-    def is_live(self, mac):
-        return mac in self.stations and self.moment < self.stations[mac][1] + STATION_TIME
+    def is_live(self, station):
+        return station in self.stations and self.moment < self.stations[station][1] + STATION_TIME
 
-    def learn(self, mac, port):
-        is_here = self.is_live(mac) and self.stations[mac][0] == port
-        here = sum(at == port and self.is_live(other) for other, (at, _) in self.stations.items()) if not is_here else 0
-        if is_here or here < STATIONS:
-            self.stations[mac] = (port, self.moment)
+    def learn(self, station, port):
+        is_here = self.is_live(station) and self.stations[station][0] == port
+        if is_here or self.live_stations(station[0], port) < STATIONS:
+            self.stations[station] = (port, self.moment)
 
-    def outs(self, port, frame, scope):
-        """The port of the destination's station, or all ports; of these the ones in scope, without the frame's own."""
-        is_known = not self.floods and not frame.destination & GROUP_BIT and self.is_live(frame.destination)
-        base = [self.stations[frame.destination][0]] if is_known else list(self.ports)
+    def live_stations(self, vlan, port):
+        """How many stations of a VLAN are known at a port."""
+        return sum(key[0] == vlan and at == port and self.is_live(key) for key, (at, _) in self.stations.items())
+
+    def outs(self, port, vlan, destination, scope):
+        """The port of the destination's station, or all ports of the VLAN; of these the ones in scope, without the frame's
+        own."""
+        is_known = not self.floods and not destination & GROUP_BIT and self.is_live((vlan, destination))
+        base = [self.stations[vlan, destination][0]] if is_known else self.plan.members(vlan)
         in_scope = [out for out in base if not scope.only_trusted or out in self.trusted or out == scope.more]
         return [out for out in in_scope if out != port and out not in self.shut]
 
     # Addresses.
 
-    def state(self, address):
-        """The state of an address that is on-link."""
-        return self.addresses.get(address) or Address(self.plan.method(address))
+    def state(self, key):
+        """The state of an address that is on-link in its VLAN."""
+        return self.addresses.get(key) or Address(self.plan.method(*key))
 
-    def keep(self, address, state):
-        self.addresses[address] = state
+    def keep(self, key, state):
+        self.addresses[key] = state
         if state.is_free:
-            del self.addresses[address]
+            del self.addresses[key]
 
     def held(self, port):
         return sum(state.holds(port) for state in self.addresses.values())
@@ -239,99 +251,104 @@ class Switch:
     def has_room(self, port):
         return self.held(port) < self.plan.per_port
 
-    def mark(self, address, name, port=None):
+    def mark(self, key, name, port=None):
         """An event on an on-link address. Answers its verdict; its probe is due now."""
-        state = self.state(address)
+        state = self.state(key)
         verdict, probe = state.step((name, port, port is not None and self.has_room(port)), self.moment, self.plan)
-        self.keep(address, state)
+        self.keep(key, state)
         if probe is not None:
-            self.queue_probe(probe, address, self.moment)
+            self.queue_probe(probe, key, self.moment)
         return verdict
 
-    def is_on_link(self, address):
-        return address is not None and self.plan.method(address) is not None
+    def is_on_link(self, vlan, address):
+        return address is not None and self.plan.method(vlan, address) is not None
 
     # The verdict.
 
     def judge(self, port, frame):
         if port.number in self.shut:
             return "PortDown"
-        rule = guard(port.role, self.plan.drop_unknown, frame)
+        rule = guard(port, self.plan.drop_unknown, frame)
         if rule:
             return rule
         if not self.plan.savi or frame.packet is None:
             return ALL
-        return self.judge_trusted(port, frame.packet) if port.is_trusted else self.judge_source(port, frame.packet)
+        judge = self.judge_trusted if port.is_trusted else self.judge_source
+        return judge(port, port.vlan_of(frame.tag), frame.packet)
 
-    def judge_trusted(self, port, packet):
+    def judge_trusted(self, port, vlan, packet):
         verdict = ALL
-        if self.is_on_link(target := packet.solicited()):
-            verdict = self.mark(target, TRUSTED_DAD)
-        elif self.is_on_link(target := packet.advertised()):
-            self.mark(target, TRUSTED_NA)
-        self.judge_dhcp(port, packet)
+        if self.is_on_link(vlan, target := packet.solicited()):
+            verdict = self.mark((vlan, target), TRUSTED_DAD)
+        elif self.is_on_link(vlan, target := packet.advertised()):
+            self.mark((vlan, target), TRUSTED_NA)
+        self.judge_dhcp(port, vlan, packet)
         return verdict
 
-    def judge_source(self, port, packet):
+    def judge_source(self, port, vlan, packet):
         """At the port of a host or a server: the source, then what the packet says."""
         if packet.source == 0:
-            return self.judge_unspecified(port, packet)
-        if not self.is_on_link(packet.source):
+            return self.judge_unspecified(port, vlan, packet)
+        if not self.is_on_link(vlan, packet.source):
             return "OffLink"
-        verdict = self.mark(packet.source, SENT, port.number)
+        verdict = self.mark((vlan, packet.source), SENT, port.number)
         if not isinstance(verdict, Scope):
             return verdict
         if packet.icmp == ADVERTISEMENT:
             target = packet.advertised()
-            return self.mark(target, NA, port.number) if self.is_on_link(target) else "NaTarget"
-        return self.judge_dhcp(port, packet) or verdict
+            return self.mark((vlan, target), NA, port.number) if self.is_on_link(vlan, target) else "NaTarget"
+        return self.judge_dhcp(port, vlan, packet) or verdict
 
-    def judge_unspecified(self, port, packet):
+    def judge_unspecified(self, port, vlan, packet):
         """What a host without an address may send (RFC 4862, RFC 4861, RFC 3810)."""
         target = packet.solicited()
         if target is not None:
-            return self.mark(target, DAD, port.number) if self.is_on_link(target) else "OffLink"
+            return self.mark((vlan, target), DAD, port.number) if self.is_on_link(vlan, target) else "OffLink"
         is_report = packet.icmp in MLD_OF_HOSTS and not packet.is_fragmented and packet.hop_limit == 1
         return TRUSTED_ONLY if packet.icmp == ROUTER_SOLICITATION or is_report else "UnspecifiedSource"
 
-    def judge_dhcp(self, port, packet):
+    def judge_dhcp(self, port, vlan, packet):
         """Requests, releases and replies. Answers the rule that stops a request, or None."""
         message = packet.dhcp()
         if message is None:
             return None
         if packet.udp == DHCP_SERVER and not port.is_trusted:
             if message.asks:
-                return self.ask(port.number, message)
+                return self.ask(vlan, port.number, message)
             if message.kind in (RELEASE, DECLINE):
-                self.give_up(port.number, message)
+                self.give_up(vlan, port.number, message)
         elif packet.udp == DHCP_CLIENT and port.role != "host" and message.kind == REPLY:
-            self.reply(message)
+            self.reply(vlan, message)
         return None
 
-    def ask(self, port, message):
-        key = (port, message.transaction, message.client)
-        if key not in self.requests and sum(other[0] == port for other in self.requests) >= REQUESTS:
+    def ask(self, vlan, port, message):
+        key = (vlan, port, message.transaction, message.client)
+        if key not in self.requests and sum(other[1] == port for other in self.requests) >= REQUESTS:
             return "PendingFull"
-        if any(other[0] != port and other[1:] == key[1:] for other in self.requests):
+        if self.asking(vlan, message) not in (None, port):
             return "DhcpContested"
         self.requests[key] = self.moment + REQUEST_TIME
         return None
 
-    def give_up(self, port, message):
-        for address, _ in message.leases:
-            if self.is_on_link(address):
-                state = self.state(address)
-                state.release(port)
-                self.keep(address, state)
+    def asking(self, vlan, message):
+        """The port that has an open request in the VLAN with the transaction and the client of a message, or None."""
+        found = (key[1] for key in self.requests if (key[0], *key[2:]) == (vlan, message.transaction, message.client))
+        return next(found, None)
 
-    def reply(self, message):
-        asked = [key for key in self.requests if key[1:] == (message.transaction, message.client)]
-        if not asked:
+    def give_up(self, vlan, port, message):
+        for address, _ in message.leases:
+            if self.is_on_link(vlan, address):
+                state = self.state((vlan, address))
+                state.release(port)
+                self.keep((vlan, address), state)
+
+    def reply(self, vlan, message):
+        port = self.asking(vlan, message)
+        if port is None:
             return
-        del self.requests[asked[0]]
-        port = asked[0][0]
+        del self.requests[vlan, port, message.transaction, message.client]
         for address, lifetime in message.leases:
-            if self.is_on_link(address):
-                state = self.state(address)
+            if self.is_on_link(vlan, address):
+                state = self.state((vlan, address))
                 state.lease(port, lifetime, self.moment, self.has_room(port))
-                self.keep(address, state)
+                self.keep((vlan, address), state)

@@ -93,6 +93,15 @@ class Bridge(Network):
             call("ip", "netns", "exec", self.space.name, "nft", "-f", os.path.join(RULES, self.rules))
 
 
+def filter_vlans(space, bridge, ports):
+    """Lets a bridge keep VLANs apart: a port has the number of one, whose frames have no tag there, or those of several."""
+    space.ip("link", "set", bridge, "type", "bridge", "vlan_filtering", "1", "vlan_default_pvid", "0")
+    for port, vlans in ports.items():
+        untagged = [] if isinstance(vlans, tuple) else ["pvid", "untagged"]
+        for vlan in vlans if isinstance(vlans, tuple) else (vlans,):
+            call("bridge", "-n", space.name, "vlan", "add", "dev", port, "vid", str(vlan), *untagged)
+
+
 class IsolatedBridge(Bridge):
     """A bridge whose ports of hosts are isolated: what comes in at one goes to the router and to the server alone."""
 
@@ -225,10 +234,18 @@ class Switch(Streams):
         lines += more
         for port, role in ROLES.items():
             lines += ["[[port]]", f"number = {port}", f'role = "{role}"', 'format = "stream"']
-            lines += [f'input = "{self.path(port)}"', f'output = "{self.path(port)}"']
-        for prefix, method in ((OWN_PREFIX, "fcfs"), (LEASED_PREFIX, "dhcp")):
-            lines += ["[[prefix]]", f'prefix = "{address_text(prefix)}/64"', f'method = "{method}"']
+            lines += [f'input = "{self.path(port)}"', f'output = "{self.path(port)}"', *self.vlans(port)]
+        for prefix, method, *more in self.prefixes():
+            lines += ["[[prefix]]", f'prefix = "{address_text(prefix)}/64"', f'method = "{method}"', *more]
         return "".join(f"{line}\n" for line in lines)
+
+    def vlans(self, _):
+        """The lines of a port that name its VLANs."""
+        return []
+
+    def prefixes(self):
+        """The prefixes of the link, with their methods."""
+        return (OWN_PREFIX, "fcfs"), (LEASED_PREFIX, "dhcp")
 
     def check(self):
         if not self.checker or not self.journal:

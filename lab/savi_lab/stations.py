@@ -37,10 +37,11 @@ def identifier(mac):
 
 
 class Station:
-    """`tap` takes and sends whole frames, `datagrams` is a UDP socket of the kernel."""
+    """`tap` takes and sends whole frames, `datagrams` is a UDP socket of the kernel. `place` is its port, in the namespace
+    `switch`, and the last octet of its MAC address: that of STATIONS if none is given."""
 
-    def __init__(self, name, switch):
-        self.name, (self.port, last) = name, STATIONS[name]
+    def __init__(self, name, switch, place=None):
+        self.name, (self.port, last) = name, place or STATIONS[name]
         self.mac = 0x02 << 40 | last
         self.link_local = making.LINK_LOCAL | identifier(self.mac)
         self.address = OWN_PREFIX | identifier(self.mac)

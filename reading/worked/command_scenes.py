@@ -222,6 +222,14 @@ WORKED = {
         [], ["end"] + ports(*[NOTHING] * 5),
         SILENT + ["6 5 1000 E control paused", "end 13", "moment 1000", "0 5 1001 C 1001 show_ports 0 0",
                   "1 5 1001 E control end", "end 8"]),
+    # Port 1 is a host's in VLAN 10, port 2 one in VLAN 20, and port 3 a trunk of both.
+    "two tenants and a trunk": (
+        ["1@1000 address_question pass-trusted 3 0", "2@1100 question_for_fe80::11_by_host_2 pass-trusted 3 0",
+         "3@2100 ADVERT_in_VLAN_20 pass-all 2 0", "3@2101 ADVERT drop-Tagged - 0", "1@2102 PACKET_in_VLAN_10 drop-Tagged - 0"],
+        ["fe80::11@10 1 valid - 301500", "fe80::11@20 2 valid - 301600", "end"],
+        SILENT + ["port 1: HEADER", "port 2: HEADER AT_2100_70 ADVERT",
+                  "port 3: HEADER AT_1000_82 question_for_fe80::11_in_VLAN_10"
+                  " AT_1100_82 question_for_fe80::11_by_host_2_in_VLAN_20"]),
     # Sources aren't validated.
     "commands where sources aren't validated": (
         ["1@1000 PACKET pass-all 3,4,5 0", "2@1001 listener_report drop-PortDown - 0"],

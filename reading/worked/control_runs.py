@@ -160,7 +160,7 @@ def check_contested(same):
     run = replay(plan_of(), frames, "2200 show bindings\n")
     same(name, "the frames come to", judged(run)[-2:], ["2@2050 drop-DhcpContested - 0", "5@2100 pass-all 1 0"])
     same(name, "the replies are", replies(run)[0], "2001:db8:2::101 1 bound - -")
-    same(name, "the leased address is", run.switch.addresses[LEASED].bound, (1, None))
+    same(name, "the leased address is", run.switch.addresses[1, LEASED].bound, (1, None))
 
 
 def check_malformed(same):

@@ -111,7 +111,7 @@ def replies(run):
 
 def sent(run, port):
     """What a port sends, as (moment, octets)."""
-    found, how = capture.arrivals(bytes(run.outputs[port].octets))
+    found, how = capture.arrivals(bytes(run.outputs[port].octets), longest=capture.LONGEST_FRAME_OUT)
     assert how == "end"
     return [(arrival.stamp, arrival.octets) for arrival in found]
 

@@ -3,6 +3,7 @@ docs/RULES.md and docs/TROUBLE.md. Ports 1, 2, 3 are hosts, 4 is trusted and 5 a
 2001:db8:2::/64 dhcp and 2001:db8:3::/64 mixed, unless a scene says otherwise. How long an address is bound shows in the
 moments of the probes that ask for it then, when a frame comes long after."""
 from .. import making
+from ..frame import tagged_frame
 from ..making import advertisement, claim, data, to_server
 from .histories import A11, A12, A22, ADVERTS, CUT, G11, G22, JUDGED, LATER, LEASED, M1, M2, M3, MIXED, NAMED, REPLY, REQUEST
 from .histories import ROUTER_MAC, ask
@@ -60,6 +61,11 @@ FRAMES = {
     "probe_for_fe80::22": claim(SWITCH_MAC, A22),
     "probe_for_2001:db8:1::11": claim(SWITCH_MAC, G11),
     "probe_for_2001:db8:3::33": claim(SWITCH_MAC, MIXED),
+    "question_for_fe80::11_by_host_2": claim(M2, A11),
+    "question_for_fe80::11_in_VLAN_10": tagged_frame(10, claim(M1, A11)),
+    "question_for_fe80::11_by_host_2_in_VLAN_20": tagged_frame(20, claim(M2, A11)),
+    "ADVERT_in_VLAN_20": tagged_frame(20, ADVERTS[0]),
+    "PACKET_in_VLAN_10": tagged_frame(10, data(M1, A11)),
 }
 FRAMES |= {f"dhcp_request_{k}": ask(M1, A11, k) for k in range(1, 18)}
 FRAMES |= {f"question_for_fe80::{k:x}": claim(M1, making.LINK_LOCAL | k) for k in range(0x100, 0x121)}

@@ -13,6 +13,8 @@ SOCKETS = "/run/savi_panel/{}/control.sock"
 # How long a station is known after its last frame (docs/REPLAYS.md, Where a frame goes), in ms.
 STATION_MS = 300_000
 
+DEFAULT_VLAN = 1
+
 BINDING, PORT, STATION = (("address", "port", "state", "claimant", "until"),
                           ("port", "role", "service", "held", "pending", "queued"), ("mac", "port", "until"))
 
@@ -97,7 +99,8 @@ class Client:
         for words in lines:
             row = dict(zip(BINDING, words))
             left, life = self.left(row["until"]), self.panel["binding_ms"]
-            row |= {"port": int(row["port"]), "name": self.names.get(int(row["port"]), ""), "left_ms": left,
+            row |= {"vlan": vlan_of(row["address"]), "port": int(row["port"]),
+                    "name": self.names.get(int(row["port"]), ""), "left_ms": left,
                     "claimant": None if row["claimant"] == "-" else int(row["claimant"]),
                     "until": None if left is None else int(row["until"]),
                     "heard_ms": max(0, life - left) if row["state"] == "valid" and left is not None else None}
@@ -119,8 +122,8 @@ class Client:
         rows = []
         for mac, port, until in lines:
             left = self.left(until)
-            rows.append({"mac": mac, "port": int(port), "name": self.names.get(int(port), ""), "until": int(until),
-                         "left_ms": left, "heard_ms": max(0, STATION_MS - left)})
+            rows.append({"mac": mac, "vlan": vlan_of(mac), "port": int(port), "name": self.names.get(int(port), ""),
+                         "until": int(until), "left_ms": left, "heard_ms": max(0, STATION_MS - left)})
         return rows
 
     def port_number(self, text):
@@ -132,6 +135,11 @@ class Client:
             names = ", ".join(f"'{name}'" for name in self.names.values() if name) or "none"
             raise Fault(f"'{text}' is neither a number nor the name of one port; the names are {names}")
         return numbers[0]
+
+
+def vlan_of(key):
+    """The VLAN of an address or a MAC address: the one behind `@`, and else the default one."""
+    return int(key.partition("@")[2] or DEFAULT_VLAN)
 
 
 def counters(lines):

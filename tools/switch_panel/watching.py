@@ -67,7 +67,7 @@ class Counts:
             self.take_entry(words)
         elif words[0] == b"end" and len(words) == 2:
             self.finish(words[1])
-        elif words[0] == b"port" and len(words) == 4 and words[1].isdigit():
+        elif words[0] == b"port" and len(words) in (4, 6) and words[1].isdigit():
             self.roles[int(words[1])] = words[2].decode("ascii", "replace")
 
     def take_entry(self, words):

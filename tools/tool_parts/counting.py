@@ -5,9 +5,9 @@ import datetime
 from dataclasses import dataclass, field
 
 from reading.commands import RULES
-from reading.frame import ETHERTYPE_IPV6, number
+from reading.frame import ETHERTYPE_IPV6, inner_frame, number, read_tag
 from reading.journal import Fault, Journal
-from reading.plan import Plan, address_text, mac_text
+from reading.plan import DEFAULT_VLAN, Plan, PortPlan, address_text, key_text, mac_text
 
 from .following import LEASED, STATIC, TENTATIVE, TESTED, VALID, Follower
 
@@ -75,6 +75,7 @@ class Refused:
 @dataclass
 class PortCount:
     role: str
+    plan: PortPlan
     frames: int = 0
     dropped: int = 0
     cut: int = 0
@@ -139,21 +140,28 @@ def moment_text(ms):
     return f"{time:%Y-%m-%d %H:%M:%S}.{ms % 1000:03} UTC"
 
 
-def source_of(octets):
-    """The octets of the source that a frame names: its IPv6 address where it has one, else its MAC address if any."""
-    is_ipv6 = len(octets) >= 38 and number(octets[12:14]) == ETHERTYPE_IPV6
-    return octets[22:38] if is_ipv6 else octets[6:12] if len(octets) >= 12 else b""
+def source_of(port, octets):
+    """The VLAN of a frame at a port of a plan, the default one where it has none, and the octets of the source that it
+    names: its IPv6 address where it has one, else its MAC address if any."""
+    vlan = port.vlan_of(read_tag(octets)) if len(octets) >= 14 else None
+    inner = octets if vlan is None else inner_frame(octets)
+    is_ipv6 = len(inner) >= 38 and number(inner[12:14]) == ETHERTYPE_IPV6
+    return DEFAULT_VLAN if vlan is None else vlan, inner[22:38] if is_ipv6 else inner[6:12] if len(inner) >= 12 else b""
 
 
 def source_text(source):
-    return {16: address_text, 6: mac_text, 0: lambda _: "-"}[len(source)](number(source))
+    """The key of a source, or `-`."""
+    vlan, octets = source
+    if not octets:
+        return "-"
+    return key_text(vlan, {16: address_text, 6: mac_text}[len(octets)](number(octets)))
 
 
 def tell(lines, watcher=None):
     """What the lines of a journal tell. Raises Fault where its head is at fault. Each refused frame and each change of an
     address is told to `watcher` too, by `refused(told, entry, source)` and `changed(address, old, change)`."""
     journal = Journal(lines)
-    ports = {port.number: PortCount(port.role) for port in journal.plan.ports}
+    ports = {port.number: PortCount(port.role, port) for port in journal.plan.ports}
     bindings = {number: BindingCount() for number, count in ports.items() if count.role != "trusted"}
     told = Telling(journal.plan, ports, bindings, is_rest=bool(journal.base))
 
@@ -193,7 +201,7 @@ def take(told, entry, watcher):
     rule = entry.rule
     if rule:
         count.dropped += 1
-        source = source_of(entry.octets)
+        source = source_of(count.plan, entry.octets)
         if (entry.port, rule) not in told.refused:
             told.refused[entry.port, rule] = Refused(entry.port, rule)
         told.refused[entry.port, rule].take(entry, source)

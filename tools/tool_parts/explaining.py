@@ -6,8 +6,9 @@ from dataclasses import dataclass
 
 from reading import toml_text
 from reading.plan import (
-    DEFAULTS, LINK_LOCAL, LONGEST, METHODS, MULTICAST, PORT_KEYS, PREFIX_KEYS, ROLES, TABLES, TEXT, TOP_KEYS, WHOLE, is_of_kind,
-    overlap, prefix_text, read_address, read_mac, read_prefix, tables,
+    DEFAULT_VLAN, DEFAULTS, LAST_VLAN, LINK_LOCAL, LONGEST, METHODS, MULTICAST, PORT_KEYS, PREFIX_KEYS, ROLES, TABLES, TEXT,
+    TOP_KEYS, VLANS, WHOLE, WHOLES, is_no_vlan, is_of_kind, overlap, prefix_text, read_address, read_mac, read_prefix,
+    tables,
 )
 from reading.toml_text import Table, TomlFault, read_toml
 
@@ -76,7 +77,8 @@ def shown(value):
         return f'"{text if len(text) <= 60 else text[:57] + ".."}"'
     if isinstance(value, dict):
         return "{ .. }" if value else "{}"
-    return "[ .. ]" if value else "[]"
+    text = f"[{', '.join(map(shown, value))}]" if is_of_kind(value, WHOLES) else "[ .. ]"
+    return text if len(text) <= 60 else "[ .. ]"
 
 
 def escaped(char):
@@ -206,6 +208,10 @@ def kind_words(key, value, wanted):
         double = f"Write the header in double brackets: [[{key}]]. Each {key} begins by one."
         is_one = isinstance(value, Table) and value.origin != toml_text.INLINED
         return f"one table `[{key}]`, and a plan has an array of them" if is_one else f"no array of tables `[[{key}]]`", double
+    if wanted == WHOLES:
+        written = value if isinstance(value, list) else re.findall("[0-9]{1,4}", str(value))
+        numbers = [int(item) for item in written if re.fullmatch("[0-9]{1,4}", str(item))]
+        return "no array of whole numbers", f"Write whole numbers in brackets: {key} = {trunk_text(numbers)}"
     if wanted == TEXT:
         example = shown(str(value) if not isinstance(value, (bool, list, dict)) else EXAMPLES[key].strip('"'))
         if isinstance(value, bool):
@@ -305,6 +311,7 @@ def wrong_ports(document, for_replay):
         yield Finding(13, document["port"].places[16], "port", "", f"the 17th port of {len(ports)}, and a switch has 16 at most",
                       "Leave some out, or put them behind another switch at a trusted port.")
     yield from wrong_numbers(tables(document, "port"))
+    yield from wrong_vlans(document)
     for port in tables(document, "port"):
         if for_replay and of_kind(port, PORT_KEYS, "format") == "stream":
             yield finding(20, port, "format", "a replay reads captures alone",
@@ -327,6 +334,53 @@ def wrong_numbers(ports):
         met.setdefault(number, port.values_at["number"][0])
 
 
+def trunk_text(vlans):
+    """These VLANs as a trunk's, in order; those of an example where there is none."""
+    return str(sorted({vlan for vlan in vlans if not is_no_vlan(vlan)})[:VLANS] or [10, 20])
+
+
+def wrong_vlans(document):
+    """Faults 22 to 24."""
+    for kind, table in all_tables(document):
+        vlan = of_kind(table, KEYS[kind], "vlan") if kind != "top" else None
+        if vlan is not None and is_no_vlan(vlan):
+            yield finding(22, table, "vlan", f"not from 1 to {LAST_VLAN:,}",
+                          f"Write vlan = {min(max(vlan, 1), LAST_VLAN)}, or leave the line out, which is {DEFAULT_VLAN}.")
+    for port in tables(document, "port"):
+        if (trunk := of_kind(port, PORT_KEYS, "trunk")) is not None:
+            yield from wrong_trunk(port, trunk)
+    yield from too_many_vlans(tables(document, "port"))
+
+
+def wrong_trunk(port, trunk):
+    if "vlan" in port:
+        yield finding(22, port, "vlan", f"the port has `trunk` too, in line {port.keys_at['trunk'][0]}",
+                      "Leave one of the two out: `vlan` is of a port without tags, `trunk` of one with them.", True)
+    others = [vlan for vlan in trunk if is_no_vlan(vlan)]
+    twice = [vlan for at, vlan in enumerate(trunk) if vlan in trunk[:at]]
+    if not trunk or others or twice:
+        what = f"VLAN {twice[0]} stands twice" if twice else "no VLAN"
+        what = f"{others[0]} isn't from 1 to {LAST_VLAN:,}" if others else what
+        yield finding(22, port, "trunk", what, f"List each VLAN of the trunk once: trunk = {trunk_text(trunk)}")
+    if of_kind(port, PORT_KEYS, "role") in ("host", "server"):
+        vlan = next((vlan for vlan in trunk if not is_no_vlan(vlan)), DEFAULT_VLAN)
+        yield finding(23, port, "trunk", f"a trunk is a trusted port, and the role of this one is {shown(port['role'])}",
+                      f'Write vlan = {vlan}, or role = "trusted" where a router or another switch is behind the port.')
+
+
+def too_many_vlans(ports):
+    """The port by which there is one VLAN more than a plan may have."""
+    met = set()
+    for port in ports:
+        key = "trunk" if "trunk" in port else "vlan"
+        found = port.get(key, DEFAULT_VLAN)
+        met |= set(found if is_of_kind(found, WHOLES) else [found] if is_of_kind(found, WHOLE) else [])
+        if len(met) > VLANS and key in port:
+            yield finding(24, port, key, f"by it the ports have {len(met)} VLANs, and a switch has {VLANS} at most",
+                          "Leave some out, or put them behind another switch.")
+            return
+
+
 def wrong_prefixes(document):
     prefixes = tables(document, "prefix")
     if len(prefixes) > 32:
@@ -347,11 +401,12 @@ def wrong_prefixes(document):
                 yield finding(18, table, "prefix", f"it has addresses that no prefix of a plan may have: {name}",
                               "Leave it out, or write the prefix of the hosts' global addresses.")
         # Where there are too many, the first 32 are compared.
-        for other, line in met[:32]:
-            if overlap(prefix, other):
+        vlan = table.get("vlan", DEFAULT_VLAN)
+        for other, line, of in met[:32]:
+            if overlap(prefix, other) and vlan == of:
                 yield finding(18, table, "prefix", f"it overlaps {prefix_text(*other)} in line {line}",
-                              "Leave one of the two out: each address has one method.")
-        met.append((prefix, table.values_at["prefix"][0]))
+                              "Leave one of the two out, or put it in another VLAN: each address of a VLAN has one method.")
+        met.append((prefix, table.values_at["prefix"][0], vlan))
 
 
 def prefix_words(text):

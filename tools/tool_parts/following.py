@@ -1,5 +1,6 @@
 """Who has which address when, from the entries of a journal. It reads the frames, and goes by reading/states.py; of
-the verdicts that stand in the journal it only notes where it would have judged otherwise."""
+the verdicts that stand in the journal it only notes where it would have judged otherwise. An address is a pair, of its VLAN
+and its number."""
 import collections
 import heapq
 from typing import NamedTuple
@@ -7,7 +8,7 @@ from typing import NamedTuple
 from reading import commands
 from reading.frame import read_frame
 from reading.journal import read_set
-from reading.plan import read_address
+from reading.plan import read_key
 from reading.states import NONE, TENTATIVE, TEST_CLAIM, TEST_LIFE, VALID, Address, FirstCome
 from reading.switch import Switch, verdict_text
 
@@ -85,8 +86,8 @@ class Follower(Switch):
         self.shut = set(read_set(ports) or ())
 
     def based(self, key):
-        address = read_address(key)
-        return self.addresses.setdefault(address, Address(self.plan.method(address)))
+        address = read_key(key)
+        return self.addresses.setdefault(address, Address(self.plan.method(*address)))
 
     def set_fixed(self, key, port):
         self.based(key).fixed = int(port)
@@ -102,9 +103,9 @@ class Follower(Switch):
             first = FirstCome(state, int(port), *map(int, claimant), since=int(since), two=two == "yes")
         self.based(key).first = first
 
-    def set_request(self, _, port, transaction, client, until):
+    def set_request(self, vlan, port, transaction, client, until):
         client = b"" if client == "-" else bytes.fromhex(client)
-        self.requests[int(port), int(transaction), client] = int(until)
+        self.requests[int(vlan), int(port), int(transaction), client] = int(until)
         self.request_due = self.request_due or self.moment
 
     def take(self, entry):
@@ -176,9 +177,9 @@ class Follower(Switch):
         super().keep(address, state)
         self.note(address, self.moment, False)
 
-    def ask(self, port, message):
+    def ask(self, vlan, port, message):
         self.request_due = self.request_due or self.moment
-        return super().ask(port, message)
+        return super().ask(vlan, port, message)
 
     def held(self, port):
         return self.counts[port]

@@ -10,7 +10,7 @@ import os
 import re
 
 from reading.commands import RULES
-from reading.plan import address_text
+from reading.plan import address_text, key_text
 
 from . import counting, telling
 
@@ -123,7 +123,8 @@ class Drawing:
     def count(self, marks, at, number, source):
         place = at // self.bins.width
         marks.row.count(place, number)
-        if int.from_bytes(source, "big") in self.tracks and len(source) == 16:
+        vlan, octets = source
+        if (vlan, int.from_bytes(octets, "big")) in self.tracks and len(octets) == 16:
             if source not in self.sources:
                 self.sources[source] = self.bins.new(Flags())
             self.sources[source].count(place)
@@ -252,12 +253,13 @@ def data(told, drawing, names):
     """What the page's code draws. Times are in ms since the first frame."""
     first = told.first or 0
     tracks = sorted(drawing.tracks.items(), key=lambda item: (item[1][0].binding.port, item[1][0].moment, item[0]))
-    rows = {address.to_bytes(16, "big"): at for at, (address, _) in enumerate(tracks)}
+    rows = {(vlan, address.to_bytes(16, "big")): at for at, ((vlan, address), _) in enumerate(tracks)}
     is_binned = any(marks.row for marks in drawing.marks.values())
     return {
         "last": max(told.last - first, 1), "savi": told.plan.savi, "bin": drawing.bins.width if is_binned else 0, "coarse": COARSE,
         "ports": [[number, count.role, names.get(number, "")] for number, count in told.ports.items()],
-        "addresses": [[address_text(address), told.plan.method(address), bars(track, first)] for address, track in tracks],
+        "addresses": [[key_text(vlan, address_text(address)), told.plan.method(vlan, address), bars(track, first)]
+                      for (vlan, address), track in tracks],
         "marked": [[rows[source], row.met()] for source, row in drawing.sources.items()],
         "refused": [refused_data(drawing.marks[refused.port, refused.rule], refused, rows) for refused in shown_order(told)],
         "words": list(drawing.words),

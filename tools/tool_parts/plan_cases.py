@@ -37,6 +37,7 @@ def prefix(number):
 
 
 MAC, JOURNAL, ROLE, METHOD = 'mac = "02:00:00:00:00:01"', 'journal = "journal.txt"', 'role = "host"', 'method = "fcfs"'
+TRUSTED = 'role = "trusted"'
 FIRST, PREFIX = "[[port]]\nnumber = 1", 'prefix = "2001:db8:1::/64"'
 MANY_PORTS = "".join(port(number) for number in range(3, 18))
 MANY_PREFIXES = "".join(prefix(number) for number in range(0x100, 0x120))
@@ -48,7 +49,9 @@ FAULTS = (
     (MAC, MAC + '\ncolour = "red"', 2, (2, 1), "colour", "The keys here are mac, journal,"),
     (ROLE, ROLE + '\nrol = "host"', 2, (7, 1), "rol", "Is `role` meant?"),
     (METHOD, METHOD + '\nbinding_s = 300', 2, (19, 1), "binding_s", "Put it above the first table."),
-    (METHOD, METHOD + '\nvlan = 1', 2, (19, 1), "vlan", "The keys here are prefix, method."),
+    (METHOD, METHOD + '\ncolour = 1', 2, (19, 1), "colour", "The keys here are prefix, method, vlan."),
+    (METHOD, METHOD + '\ntrunk = [2]', 2, (19, 1), "trunk", "Put it in a [[port]]."),
+    (ROLE, ROLE + '\nvlans = 2', 2, (7, 1), "vlans", "Is `vlan` meant?"),
     (MAC, 'mac = "02:00:00:00:00:01"\nnumber = 1', 2, (2, 1), "number", "Put it in a [[port]]."),
     (JOURNAL, "journal = 7", 3, (2, 11), "journal", 'journal = "7"'),
     (JOURNAL, "journal = 2026-11-29", 3, (2, 11), "journal", 'journal = "2026-11-29"'),
@@ -58,6 +61,12 @@ FAULTS = (
     ("[[prefix]]", "[prefix]", 3, (16, 1), "prefix", "[[prefix]]"),
     (BASE, MAC + "\n" + JOURNAL + "\nport = 1\n", 3, (3, 8), "port", "[[port]]"),
     (JOURNAL, JOURNAL + "\nper_port = 2026-11-29", 3, (3, 12), "per_port", "per_port = 32"),
+    (ROLE, ROLE + '\nvlan = "10"', 3, (7, 8), "vlan", "vlan = 10"),
+    (METHOD, METHOD + "\nvlan = [10]", 3, (19, 8), "vlan", "vlan = 1"),
+    (TRUSTED, TRUSTED + "\ntrunk = 20", 3, (13, 9), "trunk", "trunk = [20]"),
+    (TRUSTED, TRUSTED + '\ntrunk = "20, 10"', 3, (13, 9), "trunk", "trunk = [10, 20]"),
+    (TRUSTED, TRUSTED + '\ntrunk = [10, "20"]', 3, (13, 9), "trunk", "trunk = [10, 20]"),
+    (TRUSTED, TRUSTED + "\ntrunk = [true]", 3, (13, 9), "trunk", "trunk = [10, 20]"),
     (JOURNAL, "", 4, (1, 1), "journal", 'journal = "journal.txt"'),
     (ROLE + "\n", "", 4, (4, 1), "role", 'role = "host"'),
     (METHOD, "", 4, (16, 1), "method", 'method = "fcfs"'),
@@ -97,7 +106,20 @@ FAULTS = (
     (METHOD, 'method = "slaac"', 19, (18, 10), "method", 'method = "fcfs"'),
     (METHOD, 'method = "dhcpv6"', 19, (18, 10), "method", 'method = "dhcp"'),
     (ROLE, ROLE + '\nformat = "stream"', 20, (7, 10), "format", "serve"),
+    (METHOD, METHOD + '\nvlan = 2\n[[prefix]]\nprefix = "2001:db8::/32"\nmethod = "dhcp"\nvlan = 2', 18, (21, 10), "prefix",
+     "another VLAN"),
+    (ROLE, ROLE + "\nvlan = 0", 22, (7, 8), "vlan", "vlan = 1"),
+    (ROLE, ROLE + "\nvlan = 4095", 22, (7, 8), "vlan", "vlan = 4094"),
+    (METHOD, METHOD + "\nvlan = -1", 22, (19, 8), "vlan", "vlan = 1"),
+    (TRUSTED, TRUSTED + "\ntrunk = []", 22, (13, 9), "trunk", "trunk = [10, 20]"),
+    (TRUSTED, TRUSTED + "\ntrunk = [20, 10, 20]", 22, (13, 9), "trunk", "trunk = [10, 20]"),
+    (TRUSTED, TRUSTED + "\ntrunk = [20, 4095]", 22, (13, 9), "trunk", "trunk = [20]"),
+    (TRUSTED, TRUSTED + "\ntrunk = [20]\nvlan = 20", 22, (14, 1), "vlan", "Leave one of the two out"),
+    (ROLE, ROLE + "\ntrunk = [10, 20]", 23, (7, 9), "trunk", "Write vlan = 10"),
+    (TRUSTED, TRUSTED + "\ntrunk = [2, 3, 4, 5, 6, 7, 8, 9]", 24, (13, 9), "trunk", "Leave some out"),
     # Several faults: the least number is the program's.
+    (ROLE, ROLE + "\ntrunk = []\nvlan = 0", 22, (7, 9), "trunk", "trunk = [10, 20]", (22, 22, 22, 23)),
+    (ROLE, ROLE + "\nvlan = 0\nformat = \"stream\"", 20, (8, 10), "format", "serve", (20, 22)),
     (MAC, 'mac = "a"\nsavi = "On"\nper_port = 0', 5, (1, 7), "mac", "six pairs", (5, 6, 8)),
     (ROLE, 'role = "a"\nformat = "b"\ncolour = 1', 2, (8, 1), "colour", "The keys here are", (2, 15, 16)),
     ("number = 2", 'number = "2"\nnumbr = 2', 2, (12, 1), "numbr", "`number`", (2, 3)),
@@ -141,6 +163,9 @@ ERRORS = (
 TAKEN = (
     (BASE, BASE.replace("\n", "\r\n")), (BASE, "\ufeff" + BASE), (ROLE, 'role = "\\x68ost"'), (JOURNAL, 'journal = "\\ej"'),
     (BASE, MAC + "\n" + JOURNAL + '\nport = [\n{ number = 1,\n role = "host", input = "i", output = "o", },\n]\n'),
+    (TRUSTED, TRUSTED + "\ntrunk = [\n20, # the guests\n10,\n]"), (ROLE, ROLE + "\nvlan = 0xFFE"),
+    (METHOD, METHOD + '\n[[prefix]]\nprefix = "2001:db8::/32"\nmethod = "dhcp"\nvlan = 2'),
+    (TRUSTED, TRUSTED + "\ntrunk = [2, 3, 4, 5, 6, 7, 8]"),
 )
 
 NANO = struct.pack("<IHHIIII", 0xA1B23C4D, 2, 4, 0, 0, 65535, 1)
@@ -199,6 +224,11 @@ WARNINGS = (
      ((3, "isn't there"), (4, "the path of port 1's input in line 9 too"))),
     (BASE[:BASE.index("[[port]]\nnumber = 2")], MAC + "\n" + JOURNAL + "\n\n", (None, CAPTURE), ()),
     (BASE, BASE[:BASE.index("[[prefix]]")].replace('"host"', '"trusted"'), (CAPTURE, CAPTURE), ()),
+    (METHOD, METHOD + "\nvlan = 2", (CAPTURE, CAPTURE), ((1, "there is no prefix"), (19, "Write one of 1:"))),
+    (TRUSTED, TRUSTED + "\ntrunk = [1, 2]", (CAPTURE, CAPTURE), ()),
+    (TRUSTED, TRUSTED + "\nvlan = 2", (CAPTURE, CAPTURE), ((4, "VLAN 1: no port is trusted"),)),
+    (ROLE, ROLE + "\nvlan = 2", (CAPTURE, CAPTURE),
+     ((1, "VLAN 2: sources are validated"), (4, "VLAN 2: no port is trusted"))),
 )
 
 # Plans, and what tools/plan prints of them.
@@ -270,6 +300,31 @@ Port  Role     Format  Input      Output      Name
 Prefix           Method
 2001:db8:1::/64  dhcp
 2001:db8:2::/64  mixed
+
+"""),
+    (BASE.replace(ROLE, ROLE + "\nvlan = 10").replace(TRUSTED, TRUSTED + "\ntrunk = [20, 10]") +
+     """vlan = 20
+
+[[prefix]]
+prefix = "2001:db8:1::/64"
+method = "dhcp"
+vlan = 10
+""", """plan.toml: a plan for replay and for serve
+mac       02:00:00:00:00:01
+journal   journal.txt
+control   -
+sources   validated
+unknown   next headers are dropped
+room      32 addresses a port, 256 frames waiting at one, 262,144 entries, 67,108,864 octets
+times     probe gap 250 ms, test 500 ms, binding 300 s
+
+Port  Role     VLANs        Format  Input   Output  Name
+   1  host     10           pcap    1.pcap  1.out
+   2  trusted  trunk 10,20  pcap    2.pcap  2.out
+
+Prefix           VLAN  Method
+2001:db8:1::/64  10    dhcp
+2001:db8:1::/64  20    fcfs
 
 """),
 )

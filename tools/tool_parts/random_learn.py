@@ -1,11 +1,14 @@
 """Random captures of router advertisements, and a plan, from which routers and prefixes are learned.
 
-A draw steps x to (6364136223846793005 * x + 1442695040888963407) mod 2^64, from x = the seed, and is x / 2^33 rounded down; a
-choice of n takes it modulo n. Ports 1, 3 and 5 are hosts', 2 is trusted, 4 a server's. Where the seed is odd advertisements come
-from 80 routers with 40 prefixes, so that some find no place; else from few. Stamps go on by 0 to 700 ms, and now and then back."""
+A draw steps x to (6364136223846793005 * x + 1442695040888963407) mod 2^64, from x = the seed, and is x / 2^33 rounded
+down; a choice of n takes it modulo n. Ports 1, 3 and 5 are hosts', 2 is trusted, 4 a server's. Where the seed is odd
+advertisements come from 80 routers with 40 prefixes, so that some find no place; else from few. Stamps go on by 0 to 700 ms,
+and now and then back. Where the seed is 2 modulo 4 port 5 is in VLAN 10, port 6 is a trunk of VLANs 1 and 10, port 7 is
+trusted in VLAN 10, and the first prefix is one of VLAN 10; then one frame in eight has a tag."""
 import struct
 
 from reading import capture, making
+from reading.frame import tagged_frame
 from reading.learn import Learned
 from reading.plan import read_address, read_plan
 
@@ -16,6 +19,8 @@ VALID = (0, 1, 2, 60, 1800, 0xFFFFFFFF)
 LENGTHS = (64, 64, 64, 64, 63, 10, 128, 0, 129)
 WINDOWS = (0, 1, 500, 3000, 3600000)
 ROLES = {1: "host", 2: "trusted", 3: "host", 4: "server", 5: "host"}
+# The further ports of a plan with VLANs, and what its ports say of these.
+MORE, VLANS = {6: "trusted", 7: "trusted"}, {5: "vlan = 10", 6: "trunk = [1, 10]", 7: "vlan = 10"}
 MAC = 0x020000000022
 
 
@@ -81,21 +86,27 @@ def frame(source):
 
 def random_captures(seed, count=200):
     """The text of a plan, the octets of the capture of each port, and the length of the window."""
-    source = Source(seed)
+    source, has_vlans = Source(seed), seed % 4 == 2
+    roles = ROLES | MORE if has_vlans else ROLES
     window = source.one(WINDOWS[1:4] if seed % 4 else WINDOWS)
     prefixes = [link for link in LINKS if not source.happens(3)]
-    records = {number: [] for number in ROLES}
+    records = {number: [] for number in roles}
     for _ in range(count):
         source.now = max(0, source.now + source.one((0, 0, 1, 7, 100, 499, 700)) - 900 * source.happens(30))
-        records[1 + source.draw(5)].append((source.now, frame(source)))
-    captures = {number: making.capture(records[number]) for number in ROLES}
+        number, octets = 1 + source.draw(len(roles)), frame(source)
+        if has_vlans and len(octets) >= 14 and source.happens(8):
+            octets = tagged_frame(source.one((0, 1, 10, 20)), octets)
+        records[number].append((source.now, octets))
+    captures = {number: making.capture(records[number]) for number in roles}
     if source.happens(3):
         captures[3] += bytes(15)
     lines = ['mac = "02:00:00:00:00:fe"', 'journal = "journal.txt"']
-    for number, role in ROLES.items():
-        lines += ["[[port]]", f"number = {number}", f'role = "{role}"', f'input = "{number}.pcap"', f'output = "{number}.out.pcap"']
-    for prefix in prefixes:
+    for number, role in roles.items():
+        lines += ["[[port]]", f"number = {number}", f'role = "{role}"', f'input = "{number}.pcap"']
+        lines += [f'output = "{number}.out.pcap"', *([VLANS[number]] if has_vlans and number in VLANS else [])]
+    for at, prefix in enumerate(prefixes):
         lines += ["[[prefix]]", f'prefix = "{prefix}/64"', 'method = "fcfs"']
+        lines += ["vlan = 10"] if has_vlans and at == 0 else []
     return "".join(f"{line}\n" for line in lines), captures, window
 
 

@@ -1,7 +1,7 @@
 """Frames in words."""
 from reading.dhcp import RELAY_FORW, RELAY_REPL
 from reading.frame import ADVERTISEMENT, DHCP_CLIENT, DHCP_SERVER, REDIRECT, ROUTER_ADVERTISEMENT, ROUTER_SOLICITATION
-from reading.frame import SOLICITATION, discovery_fault, number, read_frame
+from reading.frame import BAD_TAG, SOLICITATION, discovery_fault, number, read_frame
 from reading.plan import address_text, mac_text
 from reading.switch import set_text
 
@@ -17,7 +17,8 @@ DHCP_NAMES = {
 # What each rule refuses (docs/RULES.md).
 RULE_WORDS = {
     "PortDown": "a frame at a port that is shut", "Malformed": "fewer than 14 octets or more than 1,518",
-    "ReservedGroup": "a group of bridges", "SourceMac": "a group as sender", "Tagged": "a VLAN tag",
+    "ReservedGroup": "a group of bridges", "SourceMac": "a group as sender",
+    "Tagged": "a frame of no VLAN of the port",
     "BadIpv6": "a malformed IPv6 packet", "HiddenUpper": "a first fragment without its whole header chain",
     "UnknownNextHeader": "a next header that isn't known", "RouterAdvert": "a router advertisement",
     "FragmentedNd": "fragmented neighbor discovery", "BadNd": "malformed neighbor discovery", "Redirect": "a redirect",
@@ -50,6 +51,11 @@ def tell(octets):
     frame = read_frame(octets)
     if frame is None:
         return f"{len(octets)} octets"
+    tag = "" if frame.tag in (None, BAD_TAG) else f" tagged {frame.tag}"
+    return tell_frame(frame) + tag
+
+
+def tell_frame(frame):
     if not frame.is_ipv6:
         return f"EtherType {frame.kind:04x} from {mac_text(frame.source)}"
     if frame.packet is None:

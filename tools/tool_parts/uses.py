@@ -4,6 +4,7 @@ import os
 import stat
 from dataclasses import dataclass
 
+from reading.plan import DEFAULT_VLAN, vlans_of
 from reading.toml_text import Items
 
 from .explaining import Finding, shown
@@ -75,21 +76,37 @@ def warnings(document, is_live, folder, plan_name=None):
 
 
 def plan_warnings(document):
-    roles = {port["role"] for port in document["port"]}
+    vlans = sorted(vlans_of(document["port"]))
+    for vlan in vlans:
+        yield from vlan_warnings(document, vlan, f"VLAN {vlan}: " if vlans != [DEFAULT_VLAN] else "")
+    for prefix in document.get("prefix", []):
+        vlan = prefix.get("vlan", DEFAULT_VLAN)
+        if vlan not in vlans:
+            place = prefix.values_at.get("vlan", prefix.values_at["prefix"])
+            yield Finding(None, place, "vlan", str(vlan), f"no port is in VLAN {vlan}, so the prefix has no effect",
+                          f"Write one of {', '.join(map(str, vlans))}: each VLAN has prefixes of its own.")
+
+
+def vlan_warnings(document, vlan, name):
+    """What is said of the ports and prefixes of a VLAN, whose name stands in front where there are several."""
+    ports = [port for port in document["port"] if vlan in vlans_of([port])]
+    roles = {port["role"] for port in ports}
     is_on = document.get("savi", "on") == "on"
-    methods = {prefix["method"] for prefix in document.get("prefix", [])}
+    methods = {prefix["method"] for prefix in document.get("prefix", []) if prefix.get("vlan", DEFAULT_VLAN) == vlan}
     place = document.values_at.get("savi", (1, 1))
     value = shown(document["savi"]) if "savi" in document else ""
     if is_on and not methods and roles != {"trusted"}:
-        yield Finding(None, place, "savi", value, "sources are validated, and there is no prefix: hosts and servers can send from "
-                      "link-local addresses alone", 'Add a [[prefix]] for each prefix of the link, or write savi = "off"')
+        yield Finding(None, place, "savi", value, f"{name}sources are validated, and there is no prefix: hosts and servers "
+                      "can send from link-local addresses alone",
+                      'Add a [[prefix]] for each prefix of the link, or write savi = "off"')
     ports_at = document["port"].places[0] if isinstance(document["port"], Items) else document.values_at["port"]
     if "trusted" not in roles:
-        yield Finding(None, ports_at, "role", "", "no port is trusted: no router can advertise, and what goes to trusted ports "
-                      "alone goes nowhere", 'Write role = "trusted" for the port of the router or of the next switch.')
+        yield Finding(None, ports_at, "role", "", f"{name}no port is trusted: no router can advertise, and what goes to "
+                      "trusted ports alone goes nowhere",
+                      'Write role = "trusted" for the port of the router or of the next switch.')
     if is_on and methods & {"dhcp", "mixed"} and not roles & {"server", "trusted"}:
-        yield Finding(None, ports_at, "role", "", "a prefix has leases, and no port has a server", 'Write role = "server" for the '
-                      "port of the DHCPv6 server, or of its relay.")
+        yield Finding(None, ports_at, "role", "", f"{name}a prefix has leases, and no port has a server",
+                      'Write role = "server" for the port of the DHCPv6 server, or of its relay.')
 
 
 # Files.

@@ -1,6 +1,6 @@
 //! A history of frames, and what it shows.
 
-ghost use Rattle.std.specs.Prelude.{◌≡◌, ◌≤◌, ◌^◌, ℕ};
+ghost use Rattle.std.specs.Prelude.{◌≤◌, ◌^◌, ℕ};
 ghost use Rattle.savi_kinds.specs.ValidPlan.{IsValidPlan};
 ghost use Rattle.savi_access.specs.Plans.{rules_of};
 ghost use Rattle.access_table.specs.Kept.{IsAgedTo};

@@ -17,8 +17,8 @@ use Rattle.access_table.specs.Steps.{Hears, Moves}
 
 -- an event on it is told
 pub told_on_link : (r : AccessRules) (t : ℕ) (old new : Kept) (a : ℕ) (event : Ev) (port : Port) (o : Option Answer)
-    → IsSome (r.addresses.method_of 1 a) → IsOfVlan r.addresses 1 (port_of event) → Hears r t old new a event o
-    → Moves r t old new (λ base past. with_event r base 1 port t a event past)
+    → IsSome (r.addresses.method_of old.vlan a) → IsOfVlan r.addresses old.vlan (port_of event) → Hears r t old new a event o
+    → Moves r t old new (λ base past. with_event r base old.vlan port t a event past)
 told_on_link r t old new a event port None on own heard = absurd (none_some (sym (ap is_some heard.0) ∙ on))
 told_on_link r t old new a event port (Some answer) on own heard = λ base past is. (heard.1 base past port is own).kept
 

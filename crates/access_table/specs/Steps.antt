@@ -14,15 +14,15 @@ use Rattle.access_table.specs.Kept.{Kept, Represents}
 
 -- an event on an on-link address is told, and answered by its row of the state tables
 pub record AnswersEvent (r : AccessRules) (t : ℕ) (old new : Kept) (a : ℕ) (event : Ev) (base : AccessBase) (past : List Mark) (port : Port) (given : Answer) : Type 0 where
-  pub answer : given ≡ answer_to r base 1 port t past a event
-  pub kept : Represents r base (with_event r base 1 port t a event past) t new
+  pub answer : given ≡ answer_to r base old.vlan port t past a event
+  pub kept : Represents r base (with_event r base old.vlan port t a event past) t new
 
 -- an event at a port of the VLAN, or at a trusted port: none is told of an address that isn't on-link
 abbrev pub Hears : AccessRules → ℕ → Kept → Kept → ℕ → Ev → Option Answer → Type 0
-Hears r t old new a event None = (r.addresses.method_of 1 a ≡ None) × (new ≡ old)
+Hears r t old new a event None = (r.addresses.method_of old.vlan a ≡ None) × (new ≡ old)
 Hears r t old new a event (Some answer) =
-    IsSome (r.addresses.method_of 1 a)
-    × ((base : AccessBase) (past : List Mark) (port : Port) → Represents r base past t old → IsOfVlan r.addresses 1 (port_of event)
+    IsSome (r.addresses.method_of old.vlan a)
+    × ((base : AccessBase) (past : List Mark) (port : Port) → Represents r base past t old → IsOfVlan r.addresses old.vlan (port_of event)
     → AnswersEvent r t old new a event base past port answer)
 
 -- the marks become those of this step

@@ -1,7 +1,7 @@
-//! The machine that judges frames: the states of all addresses of a switch and the open requests of its DHCPv6 clients, by
-//! which sources are validated (RFC 6620, RFC 7513, RFC 8074).
+//! The machine that judges the frames of a VLAN: the states of all its addresses and the open requests of its DHCPv6
+//! clients, by which sources are validated (RFC 6620, RFC 7513, RFC 8074).
 //!
-//! Contracts see an `AccessTable` as its states and its requests (`specs/Kept.antt`), and say of each call what it does to
+//! Contracts see an `AccessTable` as its VLAN, states and requests (`specs/Kept.antt`), and say of each call what it does to
 //! whatever these stand for: a list of all that frames have told since a start, as `savi_access` has it. `judge` gives each
 //! frame the verdict and the probe that `judged` there says, and then stands for the marks with those of the frame.
 //! `fix` and `clear` are the commands of an operator, which are told as frames are. Nothing takes memory but

@@ -31,17 +31,17 @@ pub fn is_validating(role: Role) -> bool
     }
 }
 
-/// How an address is assigned: by first come where it is link-local (RFC 4291 section 2.5.6), else by the method of the
-/// prefix of the plan in which it lies. None where it isn't on-link. O(prefixes), at most 32.
-pub fn method_of(plan: &Plan, a: Addr) -> Option<Method>
+/// How an address is assigned in a VLAN: by first come where it is link-local (RFC 4291 section 2.5.6), else by the method
+/// of the prefix of the VLAN in which it lies. None where it isn't on-link there. O(prefixes), at most 32.
+pub fn method_of(plan: &Plan, vlan: u16, a: Addr) -> Option<Method>
     requires { IsValidPlan plan.now }
-    ensures { result ≡ method_in plan.now a.0 }
+    ensures { result ≡ method_in plan.now vlan a.0 }
 {
     if lies_in(a, Prefix::LINK_LOCAL) {
         return Some(Method::Fcfs);
     }
     for p in plan.prefixes.as_slice() {
-        if lies_in(a, p.prefix) {
+        if p.vlan == vlan && lies_in(a, p.prefix) {
             return Some(p.method);
         }
     }

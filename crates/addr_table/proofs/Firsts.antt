@@ -5,7 +5,7 @@ use Rattle.std.proofs.lemmas.Bool.{cases_Bool, cases_eq, leb-true, leb-false, eq
 use Rattle.savi_kinds.specs.declared.address.Addr.{Addr}
 use Rattle.fcfs_states.specs.declared.times.Times.{Times}
 use Rattle.mix_rules.specs.States.{nobody}
-use Rattle.mix_rules.specs.Ageing.{due_next}
+use Rattle.mix_rules.specs.Ageing.{due_next, sooner_moment}
 use Rattle.savi_access.specs.declared.row.Row.{Row}
 use Rattle.savi_kinds.specs.Orders.{IsRising}
 use Rattle.savi_kinds.proofs.Orders.{rising-head, rising-tail}
@@ -14,7 +14,8 @@ use Rattle.savi_access.proofs.Parts.{none_there, other_address, all_weaker}
 use Rattle.timer_wheel.specs.declared.armed.Armed.{Armed}
 use Rattle.timer_wheel.specs.Arms.{pair_for, sooner, first_armed, due_within}
 use Rattle.timer_wheel.proofs.Pointwise.{IsNoLater}
-use Rattle.addr_table.specs.Dues.{dues}
+use Rattle.addr_table.specs.Dues.{dues, due_until}
+use Rattle.addr_table.specs.Dues as moments
 
 -- what is due first of all, the least by moment and then by address
 abbrev pub first_due : Times → List Row → Option (ℕ × Addr)
@@ -24,10 +25,10 @@ abbrev some_or : {X : Type 0} → X → Option X → X
 some_or d None = d
 some_or d (Some x) = x
 
-some-same : {X : Type 0} (x y : X) → Some x ≡ Some y → x ≡ y
+pub some-same : {X : Type 0} (x y : X) → Some x ≡ Some y → x ≡ y
 some-same x y same = ap (some_or x) same
 
-never-some : {X : Type 0} {x : X} → Some x ≡ None → ⊥
+pub never-some : {X : Type 0} {x : X} → Some x ≡ None → ⊥
 never-some is = cc
 
 module _ (k : Times) where
@@ -151,3 +152,35 @@ first_by t (Some f) due a is =
           (ap Some same, omega (arith, early, at))
       | inr late ↦ absurd (never-some (sym (rw late at is)))
     ]
+
+-- the moment of a pair
+abbrev pub moment_in : Option (ℕ × Addr) → Option ℕ
+moment_in None = None
+moment_in (Some first) = Some first.0
+
+until_same : (t : ℕ) (o : Option (ℕ × Addr)) → due_until t (moment_in o) ≡ moment_in (due_within t o)
+until_same t None = refl
+until_same t (Some f) = elim (cases_Bool (nat_le f.0 t)) [ inl by ↦ rw by refl | inr late ↦ rw late refl ]
+
+soonest : (armed : Armed) (o : Option (ℕ × Addr)) → sooner_moment (Some armed.due) (moment_in o) ≡ moment_in (sooner armed o)
+soonest armed None = refl
+soonest armed (Some f) = elim (cases_Bool (nat_le armed.due f.0)) [ inl so ↦ rw so refl | inr not_so ↦ rw not_so refl ]
+
+module _ (k : Times) where
+  moment_cons : (row : Row) (rows : List Row) (d : Option ℕ) → moments.first_due k rows ≡ moment_in (first_due k rows) → sooner_moment d (moments.first_due k rows) ≡ moment_in (first_armed (pair_for (address_of row) d ++ dues k rows))
+  moment_cons row rows None same = same
+  moment_cons row rows (Some n) same = ap (sooner_moment (Some n)) same ∙ soonest (record { address = record { 0 = address_of row }; due = n }) (first_due k rows)
+
+  -- the moment at which something is due first is that of the pair that is due first
+  pub first_moment : (rows : List Row) → moments.first_due k rows ≡ moment_in (first_due k rows)
+  first_moment [] = refl
+  first_moment (row ∷ rows) = moment_cons row rows (due_next k row.state) (first_moment rows)
+
+  -- what a wheel with these moments answers
+  pub asked : (t : ℕ) (rows : List Row) (arms : List Armed) → arms ≡ dues k rows → (o : Option (ℕ × Addr)) → o ≡ due_within t (first_armed arms) → due_until t (moments.first_due k rows) ≡ moment_in o
+  asked t rows arms armed o is =
+      ap (due_until t) (first_moment rows) ∙ until_same t (first_due k rows)
+      ∙ ap moment_in (ap (λ arms. due_within t (first_armed arms)) (sym armed) ∙ sym is)
+
+  pub moment_asked : (t : ℕ) (rows : List Row) (arms : List Armed) → arms ≡ dues k rows → (o : Option (ℕ × Addr)) → o ≡ due_within t (first_armed arms) → moment_in o ≡ moment_in (due_within t (first_due k rows))
+  moment_asked t rows arms armed o is = ap moment_in (is ∙ ap (λ arms. due_within t (first_armed arms)) armed)

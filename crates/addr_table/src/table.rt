@@ -1,6 +1,6 @@
 //! The table of all addresses.
 
-ghost use Rattle.std.specs.Prelude.{◌≡◌, ◌≢◌, ◌^◌, ◌*◌, ◌≤◌, ◌↔◌, ℕ, [], Option, Some, IfOk, IsTrue, false, length, slice_get};
+ghost use Rattle.std.specs.Prelude.{◌≡◌, ◌≢◌, ◌^◌, ◌*◌, ◌<◌, ◌≤◌, ◌↔◌, ℕ, [], Option, Some, IfSome, IfOk, IsTrue, false, length, slice_get};
 ghost use Rattle.std.specs.Option.{option_map};
 ghost use Rattle.savi_kinds.specs.Ports.{number_of};
 ghost use Rattle.savi_kinds.specs.declared.plan.Method.{Method};
@@ -10,10 +10,11 @@ ghost use Rattle.savi_access.specs.Rows.{state_in, with_state, count_at, pair_of
 ghost use Rattle.savi_access.specs.Ages.{aged_rows, AllStill};
 ghost use Rattle.savi_access.specs.Sends.{sends};
 ghost use Rattle.savi_access.specs.Rooms.{may_hold_more, room_for, IsFixable};
+ghost use Rattle.addr_table.specs.Dues.{IsUndue, first_due, due_until};
 ghost use Rattle.addr_table.specs.Outcomes.{outcome_in};
 ghost use Rattle.addr_table.specs.Gives.{GivesProbe};
 ghost use Rattle.savi_access.specs.Keeps.{IsWithinRules, AreSound, StaySound};
-ghost use Rattle.addr_table.specs.OneTurn.{Turns};
+ghost use Rattle.addr_table.specs.OneTurn.{IsQuiet, Turns};
 
 use crate::passed::Passed;
 use crate::room::event_port;
@@ -129,6 +130,18 @@ impl AddrTable {
         ensures same { self.new ≡ self.old }
     {
         self.wheel.is_due(t)
+    }
+
+    /// The moment (ms) at which something is due first in the state of any address, if that isn't after `t` (ms): exactly
+    /// where it is `None` ageing to `t` changes nothing. Nothing has changed. It costs what `is_due` does.
+    pub fn first_due(&mut self, t: Moment) -> Option<Moment>
+        ensures due { result ≡ due_until t (first_due self.old.times self.old.rows) }
+        ensures quiet { (u : ℕ) → IsUndue result t u → IsQuiet u self.old }
+        ensures later { IfSome result (λ due. (u : ℕ) → AllStill self.old.times u self.old.rows → u < due) }
+        ensures same { self.new ≡ self.old }
+    {
+        let first = self.wheel.first_due(t)?;
+        Some(first.0)
     }
 
     // The first of the probes that fall due by `t` (ms), by moment and then by address; what is due before it has come to

@@ -3,6 +3,7 @@ use Rattle.std.proofs.Common.{arith, ℕ, ◌≡◌, ◌+◌, ◌-◌, ◌≤◌
 use Rattle.std.specs.Prelude.{slice_get}
 use Rattle.std.specs.List.{flat_map}
 use Rattle.std.proofs.lemmas.List.{map-append, length-append, length-map, append_assoc}
+use Rattle.std.proofs.lemmas.List.Kept.{AllPairs-from_increasing}
 use Rattle.std.proofs.lemmas.Option.{slice_get-map}
 use Rattle.std.specs.Option.{option_map}
 use Rattle.savi_kinds.specs.declared.plan.Plan.{Plan}
@@ -18,14 +19,22 @@ use Rattle.checkpoint.specs.Columns.{Columns, kept_base, by_vlan, of_vlan}
 use Rattle.checkpoint.specs.Orders.{requests_in_order}
 use Rattle.checkpoint.specs.Parts.{part_line}
 use Rattle.checkpoint.specs.StateLines.{state_base_lines}
-use Rattle.checkpoint.specs.BaseLines.{HasNothingElsewhere, vlans_of, request_line, station_base_line, ended_line, head_lines, column_lines, base_texts}
+use Rattle.savi_kinds.specs.Vlans.{vlans_of}
+use Rattle.checkpoint.specs.BaseLines.{HasNothingElsewhere, request_line, station_base_line, ended_line, head_lines, column_lines, base_texts}
 use Rattle.checkpoint.specs.Kept.{IsKept}
+use Rattle.savi_kinds.specs.Orders.{IsRising}
+use Rattle.savi_kinds.proofs.Orders.{rising-head, rising-tail}
+use Rattle.savi_kinds.proofs.VlanSets.{vlans_rise}
 use Rattle.checkpoint.proofs.ByVlan.{Rising, read_by_vlan}
 use Rattle.checkpoint.proofs.PartLines.{of_rows}
 use Rattle.checkpoint.proofs.Places.{behind, at_front}
 
+rise_each : (vs : List ℕ) → IsRising (λ (v : ℕ). v) vs → Rising vs
+rise_each [] rise = tt
+rise_each (v ∷ vs) rise = (rising-head (λ (w : ℕ). w) v vs rise, rise_each vs (rising-tail (λ (w : ℕ). w) v vs rise))
+
 rising : (plan : Plan) → Rising (vlans_of plan)
-rising plan = (tt, tt)
+rising plan = rise_each (vlans_of plan) (AllPairs-from_increasing (vlans_of plan) (vlans_rise plan.ports))
 
 -- the texts of things that have a line each
 abbrev pub texts : {X : Type 0} → (X → List (List ℕ)) → List X → List (List ℕ)

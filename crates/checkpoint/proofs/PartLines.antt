@@ -10,11 +10,11 @@ use Rattle.fcfs_states.specs.declared.state.Fcfs.TheVariants.{NoBind, Tentative,
 use Rattle.dhcp_states.specs.declared.bound.Bound.{Bound}
 use Rattle.savi_access.specs.declared.row.Row.{Row}
 use Rattle.checkpoint.specs.declared.part.Part.{Part}
-use Rattle.checkpoint.specs.StateLines.{key_text, fixed_lines, binding_base_lines, claim_base_lines, state_base_lines}
+use Rattle.checkpoint.specs.StateLines.{text_in_vlan, fixed_lines, binding_base_lines, claim_base_lines, state_base_lines}
 use Rattle.checkpoint.specs.Parts.{part_line, fixed_parts, bound_parts, claimed_parts, parts_of}
 
 abbrev key : ℕ × Row → List ℕ
-key p = key_text (addr_text p.1.address) p.0
+key p = text_in_vlan (addr_text p.1.address) p.0
 
 of_fixed : (p : ℕ × Row) (fixed : Option Port) → fixed_lines (key p) fixed ≡ map part_line (fixed_parts p fixed)
 of_fixed p None = refl

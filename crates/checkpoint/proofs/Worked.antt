@@ -7,6 +7,7 @@ use Rattle.savi_kinds.specs.AddrText.{spelling, groups_of}
 use Rattle.savi_kinds.specs.declared.plan.Plan.{Plan}
 use Rattle.savi_kinds.specs.declared.plan.Role.TheVariants as roles
 use Rattle.savi_kinds.specs.declared.plan.Format.TheVariants as formats
+use Rattle.savi_kinds.specs.declared.plan.Vlan.TheVariants.{Access}
 use Rattle.savi_kinds.specs.declared.port.Port.{Port}
 use Rattle.savi_kinds.specs.declared.entry.How.TheVariants as hows
 use Rattle.savi_kinds.specs.declared.address.Mac.{Mac}
@@ -44,9 +45,9 @@ plan = record {
   life = 300000;
   control = None;
   journal = [];
-  ports = record { number = one; role = roles.Host; format = formats.Pcap; input = []; output = [] }
-      ∷ record { number = two; role = roles.Host; format = formats.Pcap; input = []; output = [] }
-      ∷ record { number = four; role = roles.Trusted; format = formats.Pcap; input = []; output = [] } ∷ [];
+  ports = record { number = one; role = roles.Host; format = formats.Pcap; input = []; output = []; vlan = Access 1 }
+      ∷ record { number = two; role = roles.Host; format = formats.Pcap; input = []; output = []; vlan = Access 1 }
+      ∷ record { number = four; role = roles.Trusted; format = formats.Pcap; input = []; output = []; vlan = Access 1 } ∷ [];
   prefixes = [];
 }
 

@@ -7,6 +7,7 @@ use Rattle.savi_kinds.specs.declared.entry.Who.{Who}
 use Rattle.savi_kinds.specs.declared.entry.Who.TheVariants.{Ingress, Control, Ticker, Egress}
 use Rattle.savi_kinds.specs.declared.entry.How.{How}
 use Rattle.savi_kinds.specs.MacText.{mac_text}
+use Rattle.savi_kinds.specs.Vlans.{vlans_of}
 use Rattle.bridge_fdb.specs.declared.station.Station.{Station}
 use Rattle.dhcp_states.specs.declared.request.Request.{Request}
 use Rattle.hist_store.specs.TextOfLines.{comma, joined, or_dash}
@@ -19,11 +20,7 @@ use Rattle.control_replies.specs.Counters.{all_rules, rule_fields, other_lines}
 use Rattle.checkpoint.specs.Bases.{Base}
 use Rattle.checkpoint.specs.Columns.{by_vlan}
 use Rattle.checkpoint.specs.Orders.{requests_in_order}
-use Rattle.checkpoint.specs.StateLines.{key_text, state_base_lines}
-
--- the VLANs of a plan, in rising order: the one of all frames, until there are others
-abbrev pub vlans_of : Plan → List ℕ
-vlans_of plan = 1 ∷ []
+use Rattle.checkpoint.specs.StateLines.{text_in_vlan, state_base_lines}
 
 -- the passes of a plan by number: one for the ingress of each port, then control and the ticker, then one for the egress of
 -- each port
@@ -54,7 +51,7 @@ request_line p =
 
 -- a station of a VLAN: its MAC address, its port, and the moment (ms) at which it was seen last
 abbrev pub station_base_line : ℕ × Station → List (List ℕ)
-station_base_line p = codes "station" ∷ key_text (mac_text p.1.mac) p.0 ∷ port_text p.1.port ∷ decimal p.1.last ∷ []
+station_base_line p = codes "station" ∷ text_in_vlan (mac_text p.1.mac) p.0 ∷ port_text p.1.port ∷ decimal p.1.last ∷ []
 
 -- a pass by its text; a number that no pass has is told by none
 abbrev pub pass_text : Option Who → List ℕ

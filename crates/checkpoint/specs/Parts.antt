@@ -9,7 +9,7 @@ use Rattle.savi_access.specs.declared.row.Row.{Row}
 use Rattle.checkpoint.specs.declared.part.Part.{Part}
 use Rattle.checkpoint.specs.declared.part.Way.{Way}
 use Rattle.checkpoint.specs.declared.part.Way.TheVariants.{Fixed, Bound, Claimed}
-use Rattle.checkpoint.specs.StateLines.{key_text, fixed_line, bound_line, fcfs_line}
+use Rattle.checkpoint.specs.StateLines.{text_in_vlan, fixed_line, bound_line, fcfs_line}
 
 abbrev pub way_line : List ℕ → Way → List (List ℕ)
 way_line key (Fixed port) = fixed_line key port
@@ -17,7 +17,7 @@ way_line key (Bound bound) = bound_line key bound
 way_line key (Claimed state) = fcfs_line key state
 
 abbrev pub part_line : Part → List (List ℕ)
-part_line part = way_line (key_text (addr_text part.address) part.vlan) part.way
+part_line part = way_line (text_in_vlan (addr_text part.address) part.vlan) part.way
 
 abbrev pub part_of : ℕ × Row → Way → Part
 part_of p way = record { vlan = p.0; address = p.1.address; way = way }

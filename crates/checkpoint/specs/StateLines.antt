@@ -11,8 +11,8 @@ use Rattle.hist_store.specs.PortTexts.{port_text}
 use Rattle.control_replies.specs.Bindings.{until_text}
 
 -- the key of an address in a VLAN: its text, and `@` with the VLAN behind it where that isn't the first one
-abbrev pub key_text : List ℕ → ℕ → List ℕ
-key_text text vlan = if vlan == 1 then text else text ++ codes "@" ++ decimal vlan
+abbrev pub text_in_vlan : List ℕ → ℕ → List ℕ
+text_in_vlan text vlan = if vlan == 1 then text else text ++ codes "@" ++ decimal vlan
 
 -- whether the second probe is still to come
 abbrev pub two_text : Bool → List ℕ
@@ -52,6 +52,6 @@ claim_base_lines key (TestVp p q since two) = fcfs_line key (TestVp p q since tw
 -- the lines of an address in its VLAN
 abbrev pub state_base_lines : ℕ × Row → List (List (List ℕ))
 state_base_lines p =
-    fixed_lines (key_text (addr_text p.1.address) p.0) p.1.state.fixed
-    ++ binding_base_lines (key_text (addr_text p.1.address) p.0) p.1.state.dhcp
-    ++ claim_base_lines (key_text (addr_text p.1.address) p.0) p.1.state.fcfs
+    fixed_lines (text_in_vlan (addr_text p.1.address) p.0) p.1.state.fixed
+    ++ binding_base_lines (text_in_vlan (addr_text p.1.address) p.0) p.1.state.dhcp
+    ++ claim_base_lines (text_in_vlan (addr_text p.1.address) p.0) p.1.state.fcfs

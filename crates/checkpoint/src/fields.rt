@@ -4,12 +4,10 @@ ghost use Rattle.std.specs.Prelude.{◌≡◌, ◌+◌, ◌≤◌, ◌<◌, ◌^
 ghost use Rattle.arrayvec.specs.ArrayVec.{array_vec_len};
 ghost use Rattle.savi_kinds.specs.Characters.{space};
 ghost use Rattle.control_replies.specs.Bindings.{until_text};
-ghost use Rattle.checkpoint.specs.StateLines.{key_text, two_text};
+ghost use Rattle.checkpoint.specs.StateLines.{text_in_vlan, two_text};
 
 use hist_store::{JournalLine, put_number, put_octets, put_word};
-
-// The VLAN of which a key says nothing.
-const FIRST_VLAN: u16 = 1;
+use savi_kinds::DEFAULT_VLAN;
 
 // Appends a space and a moment that is a sum of two numbers of 64 bits, which has at most 20 digits.
 #[tactic(auto, using(crate::proofs::Digits::twenty_digits))]
@@ -47,11 +45,11 @@ pub fn put_two(into: &mut JournalLine, two: bool)
 // Appends a space and a key: the text of an address, and its VLAN where that isn't the first one.
 pub fn put_key(into: &mut JournalLine, text: &str, vlan: u16)
     requires { array_vec_len into.old + 7 + length text.now ≤ 3400 }
-    ensures text { into.new.items ≡ into.old.items ++ space ∷ key_text text.now vlan }
+    ensures text { into.new.items ≡ into.old.items ++ space ∷ text_in_vlan text.now vlan }
     ensures size { array_vec_len into.new ≤ array_vec_len into.old + 7 + length text.now }
 {
     put_word(into, text);
-    if vlan != FIRST_VLAN {
+    if vlan != DEFAULT_VLAN {
         let mut digits = itoa::Buffer::new();
         into.push(b'@');
         put_octets(into, digits.format(vlan).as_bytes());

@@ -4,7 +4,7 @@ ghost use Rattle.std.specs.Prelude.{◌≡◌, [], ◌∷◌, ◌≤◌, length,
 ghost use Rattle.arrayvec.specs.ArrayVec.{array_vec_len};
 ghost use Rattle.hist_store.specs.TextOfLines.{joined};
 ghost use Rattle.hist_store.specs.PortTexts.{port_text};
-ghost use Rattle.checkpoint.specs.StateLines.{fcfs_line, key_text};
+ghost use Rattle.checkpoint.specs.StateLines.{fcfs_line, text_in_vlan};
 ghost use Rattle.checkpoint.specs.Parts.{part_line};
 ghost use Rattle.savi_kinds.specs.AddrText.{addr_text};
 
@@ -59,7 +59,7 @@ impl Part {
 // Writes the line of a state of first come, first served into an empty buffer, where it is one.
 fn put_claim(into: &mut JournalLine, address: Addr, vlan: u16, state: Fcfs)
     requires { into.old.items ≡ [] }
-    ensures { into.new.items ≡ joined (fcfs_line (key_text (addr_text address) vlan) state) }
+    ensures { into.new.items ≡ joined (fcfs_line (text_in_vlan (addr_text address) vlan) state) }
 {
     match state {
         Fcfs::NoBind => {}
@@ -90,7 +90,7 @@ fn put_claim(into: &mut JournalLine, address: Addr, vlan: u16, state: Fcfs)
 fn put_claimed(into: &mut JournalLine, address: Addr, vlan: u16, word: &str, port: Port)
     requires empty { into.old.items ≡ [] }
     requires short { length word.now ≤ 10 }
-    ensures text { into.new.items ≡ joined (codes "fcfs" ∷ key_text (addr_text address) vlan ∷ word.now ∷ port_text port ∷ []) }
+    ensures text { into.new.items ≡ joined (codes "fcfs" ∷ text_in_vlan (addr_text address) vlan ∷ word.now ∷ port_text port ∷ []) }
     ensures size { array_vec_len into.new ≤ 64 }
 {
     put_octets(into, b"fcfs");

@@ -10,16 +10,19 @@ use Rattle.savi_kinds.specs.declared.address.Addr.{Addr}
 use Rattle.savi_kinds.specs.declared.port.Port.{Port}
 use Rattle.savi_kinds.specs.Ports.{number_of}
 use Rattle.savi_kinds.specs.AddrText.{IsAddrText}
+use Rattle.savi_kinds.specs.KeyText.{IsKeyText}
 use Rattle.cli_lang.specs.declared.kinds.Command.{Command}
 use Rattle.cli_lang.specs.declared.kinds.Command.TheVariants as command
 use Rattle.cli_lang.specs.declared.kinds.CmdFault.{CmdFault}
 use Rattle.cli_lang.specs.declared.kinds.CmdFault.TheVariants as fault
 use Rattle.cli_lang.specs.Words.{words_of}
-use Rattle.cli_lang.specs.Commands.{Form, ShowBindings, ShowPorts, ShowCounters, ShowStations, Clear, Static, Shut, Open, Quit, words_for, Gives, GivesPort, IsPortText, IsNoAddr, IsNoPort, WordsGive, LineGives}
+use Rattle.cli_lang.specs.Commands.{Form, ShowBindings, ShowPorts, ShowCounters, ShowStations, Clear, Static, Shut, Open, Quit, words_for, Gives, GivesPort, IsPortText, IsNoAddr, IsNoKey, IsNoPort, WordsGive, LineGives}
 use Rattle.cli_lang.specs.CommandOf.{all_ports, port_of_text, forms_for, form_of, with_port, command_in, command_of}
 use Rattle.cli_lang.proofs.OneAnswer.{one_answer}
 use Rattle.savi_kinds.specs.AddrOf.{addr_of}
+use Rattle.savi_kinds.specs.KeyOf.{key_of}
 use Rattle.savi_kinds.proofs.AddrFound.{addr_read}
+use Rattle.savi_kinds.proofs.KeyGrammar.{key_read}
 
 -- what is found passes the test
 found : {X : Type 0} (test : X → Bool) (xs : List X) (x : X) → find test xs ≡ Some x → test x ≡ true
@@ -65,7 +68,7 @@ form_again ShowBindings = refl
 form_again ShowPorts = refl
 form_again ShowCounters = refl
 form_again ShowStations = refl
-form_again (Clear address) = rw same_word refl
+form_again (Clear key) = rw same_word refl
 form_again (Static address number) = rw same_word (rw same_word refl)
 form_again (Shut number) = rw same_word refl
 form_again (Open number) = rw same_word refl
@@ -89,11 +92,11 @@ form_given ShowBindings = refl
 form_given ShowPorts = refl
 form_given ShowCounters = refl
 form_given ShowStations = refl
-form_given (Clear address) = given (addr_of address) (addr_read address)
+form_given (Clear key) = given (key_of key) (key_read key)
   where
-    given : (o : Option Addr) → MatchOption o (IsNoAddr address) (λ a. IsAddrText address a) → Gives (Clear address) (option_map_or (λ (a : Addr). Ok (command.Clear a)) o (Err fault.Address))
+    given : (o : Option (ℕ × Addr)) → MatchOption o (IsNoKey key) (λ k. IsKeyText key k.0 k.1) → Gives (Clear key) (option_map_or (λ (k : ℕ × Addr). Ok (command.Clear k.0 k.1)) o (Err fault.Address))
     given None is = (is, refl)
-    given (Some a) is = (a, is, refl)
+    given (Some k) is = (k.0, k.1, is, refl)
 form_given (Static address number) = given (addr_of address) (addr_read address)
   where
     given : (o : Option Addr) → MatchOption o (IsNoAddr address) (λ a. IsAddrText address a) → Gives (Static address number) (option_map_or (λ (a : Addr). with_port number (λ p. Ok (command.Static a p))) o (Err fault.Address))

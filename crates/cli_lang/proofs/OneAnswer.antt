@@ -1,5 +1,5 @@
 -- A line has one answer: its words are of one form, and a form gives one answer.
-use Rattle.std.proofs.Common.{ℕ, ◌≡◌, ◌≤◌, List, [], ◌∷◌, Option, Some, None, Result, Ok, Err, codes, if◌then◌else◌, refl, sym, ap, ◌∙◌, subst, arith, inl, inr}
+use Rattle.std.proofs.Common.{ℕ, ◌≡◌, ◌≤◌, List, [], ◌∷◌, Option, Some, None, Result, Ok, Err, codes, if◌then◌else◌, refl, sym, ap, ap₂, ◌∙◌, subst, arith, inl, inr}
 use Rattle.std.proofs.lemmas.Fmt.{decimal_injective}
 use Rattle.std.specs.Str.{bytes_eq}
 use Rattle.savi_kinds.specs.declared.address.Addr.{Addr}
@@ -7,6 +7,7 @@ use Rattle.savi_kinds.specs.declared.port.Port.{Port}
 use Rattle.savi_kinds.specs.Ports.{number_of}
 use Rattle.savi_kinds.proofs.PortNumbers.{port_same}
 use Rattle.savi_kinds.proofs.AddrGrammar.{one_address}
+use Rattle.savi_kinds.proofs.KeyGrammar.{one_key}
 use Rattle.cli_lang.specs.declared.kinds.Command.{Command}
 use Rattle.cli_lang.specs.declared.kinds.Command.TheVariants as command
 use Rattle.cli_lang.specs.declared.kinds.CmdFault.{CmdFault}
@@ -32,7 +33,7 @@ form_found ShowBindings = refl
 form_found ShowPorts = refl
 form_found ShowCounters = refl
 form_found ShowStations = refl
-form_found (Clear address) = refl
+form_found (Clear key) = refl
 form_found (Static address number) = refl
 form_found (Shut number) = refl
 form_found (Open number) = refl
@@ -62,11 +63,12 @@ gives_once ShowBindings one other first second = first ∙ sym second
 gives_once ShowPorts one other first second = first ∙ sym second
 gives_once ShowCounters one other first second = first ∙ sym second
 gives_once ShowStations one other first second = first ∙ sym second
-gives_once (Clear address) (Ok c) (Ok d) first second =
-    ap (λ (k : Command). Ok k) (first.2 ∙ ap (λ (a : Addr). command.Clear a) (one_address address first.0 second.0 first.1 second.1) ∙ sym second.2)
-gives_once (Clear address) (Ok c) (Err g) first second = absurd (second.0 first.0 first.1)
-gives_once (Clear address) (Err f) (Ok d) first second = absurd (first.0 second.0 second.1)
-gives_once (Clear address) (Err f) (Err g) first second = ap (λ (k : CmdFault). Err k) (first.1 ∙ sym second.1)
+gives_once (Clear key) (Ok c) (Ok d) first second =
+    let same = one_key key first.0 second.0 first.1 second.1 first.2 second.2 in
+    ap (λ (k : Command). Ok k) (first.3 ∙ ap₂ (λ (vlan : ℕ) (a : Addr). command.Clear vlan a) same.0 same.1 ∙ sym second.3)
+gives_once (Clear key) (Ok c) (Err g) first second = absurd (second.0 first.0 first.1 first.2)
+gives_once (Clear key) (Err f) (Ok d) first second = absurd (first.0 second.0 second.1 second.2)
+gives_once (Clear key) (Err f) (Err g) first second = ap (λ (k : CmdFault). Err k) (first.1 ∙ sym second.1)
 gives_once (Static address number) one other (inl first) (inl second) = first.1 ∙ sym second.1
 gives_once (Static address number) one other (inl first) (inr second) = absurd (first.0 second.0 second.1)
 gives_once (Static address number) one other (inr first) (inl second) = absurd (second.0 first.0 first.1)

@@ -7,6 +7,7 @@ use Rattle.savi_kinds.specs.declared.address.Addr.{Addr}
 use Rattle.savi_kinds.specs.declared.port.Port.{Port}
 use Rattle.savi_kinds.specs.Ports.{number_of}
 use Rattle.savi_kinds.specs.AddrOf.{addr_of}
+use Rattle.savi_kinds.specs.KeyOf.{key_of}
 use Rattle.cli_lang.specs.declared.kinds.Command.{Command}
 use Rattle.cli_lang.specs.declared.kinds.Command.TheVariants as command
 use Rattle.cli_lang.specs.declared.kinds.CmdFault.{CmdFault}
@@ -40,9 +41,12 @@ forms_for words = []
 abbrev pub form_of : List (List ℕ) → Option Form
 form_of words = find (λ form. pointwise bytes_eq words (words_for form)) (forms_for words)
 
--- the command for an address, or the fault of its text; the same for a port
+-- the command for an address, or the fault of its text; the same for the key of one, and for a port
 abbrev pub with_addr : List ℕ → (Addr → Result Command CmdFault) → Result Command CmdFault
 with_addr address make = option_map_or make (addr_of address) (Err fault.Address)
+
+abbrev pub with_key : List ℕ → (ℕ → Addr → Result Command CmdFault) → Result Command CmdFault
+with_key key make = option_map_or (λ k. make k.0 k.1) (key_of key) (Err fault.Address)
 
 abbrev pub with_port : List ℕ → (Port → Result Command CmdFault) → Result Command CmdFault
 with_port number make = option_map_or make (port_of_text number) (Err fault.PortNumber)
@@ -53,7 +57,7 @@ command_in ShowBindings = Ok command.ShowBindings
 command_in ShowPorts = Ok command.ShowPorts
 command_in ShowCounters = Ok command.ShowCounters
 command_in ShowStations = Ok command.ShowStations
-command_in (Clear address) = with_addr address (λ a. Ok (command.Clear a))
+command_in (Clear key) = with_key key (λ vlan a. Ok (command.Clear vlan a))
 command_in (Static address number) = with_addr address (λ a. with_port number (λ p. Ok (command.Static a p)))
 command_in (Shut number) = with_port number (λ p. Ok (command.Shut p))
 command_in (Open number) = with_port number (λ p. Ok (command.Reopen p))

@@ -4,19 +4,20 @@ use Rattle.savi_kinds.specs.declared.address.Addr.{Addr}
 use Rattle.savi_kinds.specs.declared.port.Port.{Port}
 use Rattle.savi_kinds.specs.Ports.{number_of}
 use Rattle.savi_kinds.specs.AddrText.{IsAddrText}
+use Rattle.savi_kinds.specs.KeyText.{IsKeyText}
 use Rattle.cli_lang.specs.declared.kinds.Command.{Command}
 use Rattle.cli_lang.specs.declared.kinds.Command.TheVariants as command
 use Rattle.cli_lang.specs.declared.kinds.CmdFault.{CmdFault}
 use Rattle.cli_lang.specs.declared.kinds.CmdFault.TheVariants as fault
 use Rattle.cli_lang.specs.Words.{words_of}
 
--- The forms of a command, with the texts that stand for an address and the number of a port.
+-- The forms of a command, with the texts that stand for an address, the key of one and the number of a port.
 pub data Form : Type 0 where
   ShowBindings : Form
   ShowPorts : Form
   ShowCounters : Form
   ShowStations : Form
-  Clear : (address : List ℕ) → Form
+  Clear : (key : List ℕ) → Form
   Static : (address number : List ℕ) → Form
   Shut : (number : List ℕ) → Form
   Open : (number : List ℕ) → Form
@@ -28,7 +29,7 @@ words_for ShowBindings = codes "show" ∷ codes "bindings" ∷ []
 words_for ShowPorts = codes "show" ∷ codes "ports" ∷ []
 words_for ShowCounters = codes "show" ∷ codes "counters" ∷ []
 words_for ShowStations = codes "show" ∷ codes "stations" ∷ []
-words_for (Clear address) = codes "clear" ∷ address ∷ []
+words_for (Clear key) = codes "clear" ∷ key ∷ []
 words_for (Static address number) = codes "static" ∷ address ∷ number ∷ []
 words_for (Shut number) = codes "shut" ∷ number ∷ []
 words_for (Open number) = codes "open" ∷ number ∷ []
@@ -38,9 +39,12 @@ words_for Quit = codes "quit" ∷ []
 abbrev pub IsPortText : List ℕ → Port → Type 0
 IsPortText text port = text ≡ decimal (number_of port)
 
--- the text writes no address, or no number of a port
+-- the text writes no address, or no key of an address in a VLAN, or no number of a port
 abbrev pub IsNoAddr : List ℕ → Type 0
 IsNoAddr text = (a : Addr) → ¬ IsAddrText text a
+
+abbrev pub IsNoKey : List ℕ → Type 0
+IsNoKey text = (vlan : ℕ) (a : Addr) → ¬ IsKeyText text vlan a
 
 abbrev pub IsNoPort : List ℕ → Type 0
 IsNoPort text = (n : ℕ) → 1 ≤ n → n ≤ 16 → text ≢ decimal n
@@ -50,14 +54,14 @@ abbrev pub GivesPort : List ℕ → (Port → Command) → Result Command CmdFau
 GivesPort number make result =
     MatchResult result (λ c. (port : Port) × IsPortText number port × (c ≡ make port)) (λ f. IsNoPort number × (f ≡ fault.PortNumber))
 
--- What a form gives: a command, or the fault of its address, and of its port only where the address has none.
+-- What a form gives: a command, or the fault of its address or key, and of its port only where the address has none.
 abbrev pub Gives : Form → Result Command CmdFault → Type 0
 Gives ShowBindings result = result ≡ Ok command.ShowBindings
 Gives ShowPorts result = result ≡ Ok command.ShowPorts
 Gives ShowCounters result = result ≡ Ok command.ShowCounters
 Gives ShowStations result = result ≡ Ok command.ShowStations
-Gives (Clear address) result =
-    MatchResult result (λ c. (a : Addr) × IsAddrText address a × (c ≡ command.Clear a)) (λ f. IsNoAddr address × (f ≡ fault.Address))
+Gives (Clear key) result =
+    MatchResult result (λ c. (vlan : ℕ) × (a : Addr) × IsKeyText key vlan a × (c ≡ command.Clear vlan a)) (λ f. IsNoKey key × (f ≡ fault.Address))
 Gives (Static address number) result =
     (IsNoAddr address × (result ≡ Err fault.Address))
     ⊎ ((a : Addr) × IsAddrText address a × GivesPort number (λ port. command.Static a port) result)

@@ -4,12 +4,14 @@ ghost use Rattle.cli_lang.specs.CommandOf.{command_of};
 
 use crate::kinds::{CmdFault, Command};
 use crate::words::{Words, words_of};
-use savi_kinds::{PORTS_MOST, Port, read_addr, read_decimal};
+use savi_kinds::{PORTS_MOST, Port, read_addr, read_decimal, read_key};
 
 /// Reads a command: words with one space between each two, compared exactly.
 ///
 /// `Unknown` where the word and the number of words are those of no command, then `Address` where the address is none
-/// (RFC 4291 section 2.2), then `PortNumber` where the port isn't from 1 to 16 without a leading zero. O(n).
+/// (RFC 4291 section 2.2), or the key of `clear` is none (an address in VLAN 1, an address, `@` and the VLAN's number in
+/// another), then `PortNumber` where the port isn't from 1 to 16 without a leading zero. Whether a switch has the VLAN isn't
+/// asked here. O(n).
 pub fn command(line: &[u8]) -> Result<Command, CmdFault>
     ensures gives { LineGives line.now result }
     ensures value { result ≡ command_of line.now }
@@ -38,8 +40,8 @@ fn two_words(word: &[u8], argument: &[u8]) -> Result<Command, CmdFault>
     if is(word, "show") {
         show(argument)
     } else if is(word, "clear") {
-        match read_addr(argument) {
-            Some(address) => Ok(Command::Clear(address)),
+        match read_key(argument) {
+            Some((vlan, address)) => Ok(Command::Clear(vlan, address)),
             None => Err(CmdFault::Address),
         }
     } else if is(word, "shut") {

@@ -7,9 +7,9 @@ pub enum Command {
     ShowPorts,
     ShowCounters,
     ShowStations,
-    /// Forget what is known of the address.
-    Clear(Addr),
-    /// Bind the address to the port for good.
+    /// Forget what is known of the address in this VLAN.
+    Clear(u16, Addr),
+    /// Bind the address to the port for good, in the port's VLAN.
     Static(Addr, Port),
     /// Take the port out of service.
     Shut(Port),
@@ -23,7 +23,7 @@ pub enum Command {
 pub enum CmdFault {
     /// Its words are those of no command.
     Unknown,
-    /// An address is wanted, and the word there is none.
+    /// An address, or the key of one, is wanted, and the word there is none.
     Address,
     /// The number of a port is wanted, and the word there is none from 1 to 16.
     PortNumber,

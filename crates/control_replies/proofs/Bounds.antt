@@ -1,5 +1,6 @@
 -- How long the replies are.
-use Rattle.std.proofs.Common.{ℕ, ◌≡◌, ◌+◌, ◌*◌, ◌<◌, ◌≤◌, ◌^◌, List, [], ◌∷◌, ◌++◌, length, map, codes, decimal, Option, Some, None, IfSome, Bool, true, false, ap, ◌∙◌, refl, arith}
+use Rattle.std.proofs.Common.{ℕ, ◌≡◌, ◌+◌, ◌*◌, ◌<◌, ◌≤◌, ◌^◌, ◌==◌, if◌then◌else◌, List, [], ◌∷◌, ◌++◌, length, map, codes, decimal, Option, Some, None, IfSome, Bool, true, false, ap, ◌∙◌, refl, arith}
+use Rattle.std.proofs.lemmas.Fmt.{length-decimal-le}
 use Rattle.std.proofs.lemmas.List.{length-append}
 use Rattle.std.specs.List.{AllByRecursion, join_with_byte}
 use Rattle.savi_kinds.specs.declared.address.Addr.{Addr}
@@ -10,7 +11,8 @@ use Rattle.savi_kinds.specs.declared.plan.Role.TheVariants.{Host, Server, Truste
 use Rattle.savi_kinds.specs.declared.verdict.Rule.{Rule}
 use Rattle.savi_kinds.specs.declared.verdict.Rule.TheVariants as rules
 use Rattle.savi_kinds.specs.AddrText.{addr_text}
-use Rattle.savi_kinds.specs.MacText.{mac_text, hex_pair, colon}
+use Rattle.savi_kinds.specs.MacText.{mac_text, HasSixOctets, hex_pair, colon}
+use Rattle.savi_kinds.specs.KeyText.{key_text, mac_key_text, vlan_suffix}
 use Rattle.savi_kinds.specs.PlanWords.{role_word}
 use Rattle.savi_kinds.proofs.AddrWritten.{most_len}
 use Rattle.fcfs_states.specs.declared.times.Times.{Times}
@@ -32,7 +34,7 @@ use Rattle.mix_rules.specs.Premises.{IsMomentBelow}
 use Rattle.control_replies.specs.Bindings.{claimant_text, until_text, binding_fields, fcfs_lines, bound_lines, state_lines, binding_lines, all_binding_lines, bindings_text, IsStored}
 use Rattle.control_replies.specs.Shows.{shut_word, port_fields, port_line, ports_text, station_fields, station_line, stations_text, HasCounts, IsStation}
 use Rattle.control_replies.specs.Counters.{all_rules, dropped_count, counter_fields, rule_fields, other_lines, counters_text, AreCounts}
-use Rattle.control_replies.proofs.Lines.{twenty_digits, port_digits, line_size, lines_more, lines_size}
+use Rattle.control_replies.proofs.Lines.{nineteen_digits, twenty_digits, port_digits, line_size, lines_more, lines_size}
 
 pub refusal_size : (refusal : Refusal) → length (refusal_text refusal) ≤ 23
 refusal_size UnknownCommand = omega arith
@@ -52,42 +54,57 @@ until_size : (until : Option ℕ) → IfSome until (λ moment. moment < 2 ^ 65) 
 until_size (Some moment) fits = twenty_digits moment fits
 until_size None fits = omega arith
 
--- a line of an address
-binding_size : (address : Addr) (port : Port) (state : List ℕ) (claimant : Option Port) (until : Option ℕ) → length state ≤ 10 → IfSome until (λ moment. moment < 2 ^ 65) → length (lines_text (binding_fields address port state claimant until ∷ [])) ≤ 78
-binding_size address port state claimant until short fits =
-    omega (arith, line_size (addr_text address) (port_text port ∷ state ∷ claimant_text claimant ∷ until_text until ∷ []), most_len address, port_digits port, short, claimant_size claimant, until_size until fits)
+-- what stands behind an address of a VLAN: nothing, or `@` and at most four digits
+suffix_size_at : (first : Bool) (vlan : ℕ) → vlan ≤ 4094 → length (if first then [] else 64 ∷ decimal vlan) ≤ 5
+suffix_size_at true vlan within = omega arith
+suffix_size_at false vlan within =
+    let digits : length (decimal vlan) ≤ 4 = length-decimal-le 4 vlan (omega arith) (omega (arith, within)) (omega (arith, within)) in
+    omega (arith, digits)
 
-fcfs_size : (times : Times) (address : Addr) (fcfs : Fcfs) → times.test < 2 ^ 64 → AreMomentsBelow (2 ^ 64) fcfs → length (lines_text (fcfs_lines times address fcfs)) ≤ 78
-fcfs_size times address NoBind test fits = omega arith
-fcfs_size times address (Tentative p since two) test fits = binding_size address p (codes "tentative") None (Some (since + times.test)) (omega arith) (omega (arith, test, fits))
-fcfs_size times address (Valid p until) test fits = binding_size address p (codes "valid") None (Some until) (omega arith) (omega (arith, fits))
-fcfs_size times address (TestLt p since two) test fits = binding_size address p (codes "testing-lt") None (Some (since + times.test)) (omega arith) (omega (arith, test, fits))
-fcfs_size times address (TestVp p q since two) test fits = binding_size address p (codes "testing-vp") (Some q) (Some (since + times.test)) (omega arith) (omega (arith, test, fits))
+suffix_size : (vlan : ℕ) → vlan ≤ 4094 → length (vlan_suffix vlan) ≤ 5
+suffix_size vlan within = suffix_size_at (vlan == 1) vlan within
+
+key_size : (vlan : ℕ) (address : Addr) → vlan ≤ 4094 → length (key_text vlan address) ≤ 44
+key_size vlan address within = omega (arith, length-append (addr_text address) (vlan_suffix vlan), most_len address, suffix_size vlan within)
+
+-- a line of an address
+binding_size : (vlan : ℕ) (address : Addr) (port : Port) (state : List ℕ) (claimant : Option Port) (until : Option ℕ) → vlan ≤ 4094 → length state ≤ 10 → IfSome until (λ moment. moment < 2 ^ 65)
+    → length (lines_text (binding_fields vlan address port state claimant until ∷ [])) ≤ 83
+binding_size vlan address port state claimant until within short fits =
+    omega (arith, line_size (key_text vlan address) (port_text port ∷ state ∷ claimant_text claimant ∷ until_text until ∷ []), key_size vlan address within, port_digits port, short, claimant_size claimant, until_size until fits)
+
+fcfs_size : (times : Times) (vlan : ℕ) (address : Addr) (fcfs : Fcfs) → vlan ≤ 4094 → times.test < 2 ^ 64 → AreMomentsBelow (2 ^ 64) fcfs → length (lines_text (fcfs_lines times vlan address fcfs)) ≤ 83
+fcfs_size times vlan address NoBind within test fits = omega arith
+fcfs_size times vlan address (Tentative p since two) within test fits = binding_size vlan address p (codes "tentative") None (Some (since + times.test)) within (omega arith) (omega (arith, test, fits))
+fcfs_size times vlan address (Valid p until) within test fits = binding_size vlan address p (codes "valid") None (Some until) within (omega arith) (omega (arith, fits))
+fcfs_size times vlan address (TestLt p since two) within test fits = binding_size vlan address p (codes "testing-lt") None (Some (since + times.test)) within (omega arith) (omega (arith, test, fits))
+fcfs_size times vlan address (TestVp p q since two) within test fits = binding_size vlan address p (codes "testing-vp") (Some q) (Some (since + times.test)) within (omega arith) (omega (arith, test, fits))
 
 end_fits : (until : Option ℕ) → IsMomentBelow (2 ^ 64) until → IfSome until (λ moment. moment < 2 ^ 65)
 end_fits (Some moment) fits = omega (arith, fits)
 end_fits None fits = tt
 
-bound_size : (address : Addr) (dhcp : Option Bound) → IsMomentBelow (2 ^ 64) (bound_end dhcp) → length (lines_text (bound_lines address dhcp)) ≤ 78
-bound_size address (Some bound) fits = binding_size address bound.p (codes "bound") None bound.until (omega arith) (end_fits bound.until fits)
-bound_size address None fits = omega arith
+bound_size : (vlan : ℕ) (address : Addr) (dhcp : Option Bound) → vlan ≤ 4094 → IsMomentBelow (2 ^ 64) (bound_end dhcp) → length (lines_text (bound_lines vlan address dhcp)) ≤ 83
+bound_size vlan address (Some bound) within fits = binding_size vlan address bound.p (codes "bound") None bound.until within (omega arith) (end_fits bound.until fits)
+bound_size vlan address None within fits = omega arith
 
-state_size : (times : Times) (address : Addr) (fixed : Option Port) (fcfs : Fcfs) (dhcp : Option Bound) → times.test < 2 ^ 64 → AreMomentsBelow (2 ^ 64) fcfs → IsMomentBelow (2 ^ 64) (bound_end dhcp) → length (lines_text (state_lines times address fixed fcfs dhcp)) ≤ 156
-state_size times address (Some port) fcfs dhcp test first second = omega (arith, binding_size address port (codes "static") None None (omega arith) tt)
-state_size times address None fcfs dhcp test first second =
-    let both : length (lines_text (bound_lines address dhcp ++ fcfs_lines times address fcfs)) ≡ length (lines_text (bound_lines address dhcp)) + length (lines_text (fcfs_lines times address fcfs)) =
-    ap length (lines_more (bound_lines address dhcp) (fcfs_lines times address fcfs)) ∙ length-append (lines_text (bound_lines address dhcp)) (lines_text (fcfs_lines times address fcfs)) in
-    omega (arith, both, fcfs_size times address fcfs test first, bound_size address dhcp second)
+state_size : (times : Times) (vlan : ℕ) (address : Addr) (fixed : Option Port) (fcfs : Fcfs) (dhcp : Option Bound) → vlan ≤ 4094 → times.test < 2 ^ 64 → AreMomentsBelow (2 ^ 64) fcfs → IsMomentBelow (2 ^ 64) (bound_end dhcp)
+    → length (lines_text (state_lines times vlan address fixed fcfs dhcp)) ≤ 166
+state_size times vlan address (Some port) fcfs dhcp within test first second = omega (arith, binding_size vlan address port (codes "static") None None within (omega arith) tt)
+state_size times vlan address None fcfs dhcp within test first second =
+    let both : length (lines_text (bound_lines vlan address dhcp ++ fcfs_lines times vlan address fcfs)) ≡ length (lines_text (bound_lines vlan address dhcp)) + length (lines_text (fcfs_lines times vlan address fcfs)) =
+    ap length (lines_more (bound_lines vlan address dhcp) (fcfs_lines times vlan address fcfs)) ∙ length-append (lines_text (bound_lines vlan address dhcp)) (lines_text (fcfs_lines times vlan address fcfs)) in
+    omega (arith, both, fcfs_size times vlan address fcfs within test first, bound_size vlan address dhcp within second)
 
-pub row_size : (times : Times) (row : Row) → times.test < 2 ^ 64 → IsStored row → length (binding_lines times row) ≤ 156
-row_size times row test stored = state_size times row.address row.state.fixed row.state.fcfs row.state.dhcp test stored.fcfs stored.dhcp
+pub row_size : (times : Times) (row : ℕ × Row) → times.test < 2 ^ 64 → IsStored row → length (binding_lines times row) ≤ 166
+row_size times row test stored = state_size times row.0 row.1.address row.1.state.fixed row.1.state.fcfs row.1.state.dhcp stored.vlan test stored.fcfs stored.dhcp
 
-pub rows_size : (times : Times) (rows : List Row) → times.test < 2 ^ 64 → AllByRecursion IsStored rows → length (all_binding_lines times rows) ≤ 156 * length rows
+pub rows_size : (times : Times) (rows : List (ℕ × Row)) → times.test < 2 ^ 64 → AllByRecursion IsStored rows → length (all_binding_lines times rows) ≤ 166 * length rows
 rows_size times [] test stored = omega arith
 rows_size times (row ∷ rows) test stored =
     omega (arith, length-append (binding_lines times row) (all_binding_lines times rows), row_size times row test stored.0, rows_size times rows test stored.1)
 
-pub bindings_size : (times : Times) (rows : List Row) → times.test < 2 ^ 64 → AllByRecursion IsStored rows → length rows ≤ 1024 → length (bindings_text times rows) ≤ 262144
+pub bindings_size : (times : Times) (rows : List (ℕ × Row)) → times.test < 2 ^ 64 → AllByRecursion IsStored rows → length rows ≤ 1024 → length (bindings_text times rows) ≤ 2097152
 bindings_size times rows test stored few = omega (arith, length-append (all_binding_lines times rows) end_text, rows_size times rows test stored, few)
 
 role_size : (role : Role) → length (role_word role) ≤ 7
@@ -115,7 +132,7 @@ port_size row counts =
       number_size row.queued counts.queued,
     )
 
-pub ports_size : (rows : List PortRow) → AllByRecursion HasCounts rows → length rows ≤ 16 → length (ports_text rows) ≤ 262144
+pub ports_size : (rows : List PortRow) → AllByRecursion HasCounts rows → length rows ≤ 16 → length (ports_text rows) ≤ 2097152
 ports_size rows counts few = omega (arith, length-append (lines_text (map port_fields rows)) end_text, lines_size port_fields HasCounts 79 rows port_size counts, few)
 
 -- two digits for each octet, and a colon between each two
@@ -127,12 +144,15 @@ mac_size : (octets : List ℕ) → length octets ≡ 6 → length (join_with_byt
 mac_size [] six = omega arith
 mac_size (octet ∷ octets) six = omega (arith, pairs_size octet octets, six)
 
-pub station_size : (row : Mac × Port × ℕ) → IsStation row → length (station_line row) ≤ 42
-station_size row station =
-    omega (arith, line_size (mac_text row.0) (port_text row.1 ∷ decimal row.2 ∷ []), mac_size row.0.0 station.mac.0, port_digits row.1, number_size row.2 station.until)
+mac_key_size : (vlan : ℕ) (mac : Mac) → vlan ≤ 4094 → HasSixOctets mac → length (mac_key_text vlan mac) ≤ 22
+mac_key_size vlan mac within six = omega (arith, length-append (mac_text mac) (vlan_suffix vlan), mac_size mac.0 six.0, suffix_size vlan within)
 
-pub stations_size : (rows : List (Mac × Port × ℕ)) → AllByRecursion IsStation rows → length rows ≤ 4096 → length (stations_text rows) ≤ 262144
-stations_size rows stations few = omega (arith, length-append (lines_text (map station_fields rows)) end_text, lines_size station_fields IsStation 42 rows station_size stations, few)
+pub station_size : (row : ℕ × Mac × Port × ℕ) → IsStation row → length (station_line row) ≤ 46
+station_size row station =
+    omega (arith, line_size (mac_key_text row.0 row.1) (port_text row.2 ∷ decimal row.3 ∷ []), mac_key_size row.0 row.1 station.vlan station.mac, port_digits row.2, nineteen_digits row.3 station.until)
+
+pub stations_size : (rows : List (ℕ × Mac × Port × ℕ)) → AllByRecursion IsStation rows → length rows ≤ 32768 → length (stations_text rows) ≤ 2097152
+stations_size rows stations few = omega (arith, length-append (lines_text (map station_fields rows)) end_text, lines_size station_fields IsStation 46 rows station_size stations, few)
 
 name_size : (rule : Rule) → length (rule_name rule) ≤ 17
 name_size rules.PortDown = omega arith

@@ -12,6 +12,10 @@ use Rattle.hist_store.specs.PortTexts.{port_text}
 pub twenty_digits : (n : ℕ) → n < 2 ^ 65 → length (decimal n) ≤ 20
 twenty_digits n fits = length-decimal-le_wide 20 n (omega arith) (omega (arith, fits)) (omega (arith, fits))
 
+-- one of 63 bits has at most 19
+pub nineteen_digits : (n : ℕ) → n < 2 ^ 63 → length (decimal n) ≤ 19
+nineteen_digits n fits = length-decimal-le 19 n (omega arith) (omega (arith, fits)) (omega (arith, fits))
+
 pub two_digits : (n : ℕ) → n < 100 → length (decimal n) ≤ 2
 two_digits n small = length-decimal-le 2 n (omega arith) (omega (arith, small)) (omega (arith, small))
 

@@ -1,8 +1,9 @@
--- What `show ports` and `show stations` print: a line for each port of the plan, and one for each live station.
-use Rattle.std.specs.Prelude.{ℕ, ◌^◌, ◌<◌, Bool, if◌then◌else◌, List, [], ◌∷◌, ◌++◌, map, codes, decimal}
+-- What `show ports` and `show stations` print: a line for each port of the plan, and one for each live station of each VLAN.
+use Rattle.std.specs.Prelude.{ℕ, ◌^◌, ◌<◌, ◌≤◌, Bool, if◌then◌else◌, List, [], ◌∷◌, ◌++◌, map, codes, decimal}
 use Rattle.savi_kinds.specs.declared.address.Mac.{Mac}
 use Rattle.savi_kinds.specs.declared.port.Port.{Port}
-use Rattle.savi_kinds.specs.MacText.{mac_text, HasSixOctets}
+use Rattle.savi_kinds.specs.MacText.{HasSixOctets}
+use Rattle.savi_kinds.specs.KeyText.{mac_key_text}
 use Rattle.savi_kinds.specs.PlanWords.{role_word}
 use Rattle.hist_store.specs.TextOfLines.{lines_text}
 use Rattle.hist_store.specs.PortTexts.{port_text}
@@ -30,17 +31,19 @@ pub record HasCounts (row : PortRow) : Type 0 where
   pub pending : row.pending < 2 ^ 64
   pub queued : row.queued < 2 ^ 64
 
--- a station: its MAC address, its port, and the moment (ms) at which it ends
-abbrev pub station_fields : Mac × Port × ℕ → List (List ℕ)
-station_fields row = mac_text row.0 ∷ port_text row.1 ∷ decimal row.2 ∷ []
+-- a station: its VLAN and its MAC address, its port, and the moment (ms) at which it ends
+abbrev pub station_fields : ℕ × Mac × Port × ℕ → List (List ℕ)
+station_fields row = mac_key_text row.0 row.1 ∷ port_text row.2 ∷ decimal row.3 ∷ []
 
-abbrev pub station_line : Mac × Port × ℕ → List ℕ
+abbrev pub station_line : ℕ × Mac × Port × ℕ → List ℕ
 station_line row = lines_text (station_fields row ∷ [])
 
-abbrev pub stations_text : List (Mac × Port × ℕ) → List ℕ
+abbrev pub stations_text : List (ℕ × Mac × Port × ℕ) → List ℕ
 stations_text rows = lines_text (map station_fields rows) ++ end_text
 
--- a MAC address has six octets and the moment 64 bits, as the code has them
-pub record IsStation (row : Mac × Port × ℕ) : Type 0 where
-  pub mac : HasSixOctets row.0
-  pub until : row.2 < 2 ^ 64
+-- a VLAN has a number that it may have (IEEE 802.1Q), a MAC address six octets as the code has them, and a station ends 300 s
+-- after a moment of at most 2^62
+pub record IsStation (row : ℕ × Mac × Port × ℕ) : Type 0 where
+  pub vlan : row.0 ≤ 4094
+  pub mac : HasSixOctets row.1
+  pub until : row.3 < 2 ^ 63

@@ -7,23 +7,25 @@ ghost use Rattle.hist_store.specs.TextOfLines.{lines_text};
 ghost use Rattle.control_replies.specs.Bindings.{binding_fields, claimant_text, until_text};
 
 use crate::line::{Line, put_octets, put_port, put_word};
-use savi_kinds::{Addr, Port, put_addr};
+use savi_kinds::{Addr, Port, put_key};
 
-/// The line of a binding, with its line feed: `state` is the word for its state, `until` the moment (ms) at which it ends,
-/// a sum of at most two numbers of 64 bits.
+/// The line of a binding in a VLAN, with its line feed: `state` is the word for its state, `until` the moment (ms) at which it
+/// ends, a sum of at most two numbers of 64 bits.
 pub fn binding_line(
+    vlan: u16,
     address: Addr,
     port: Port,
     state: &str,
     claimant: Option<Port>,
     until: Option<u128>,
 ) -> Line
+    requires vlan { vlan ≤ 4094 }
     requires short { length state.now ≤ 10 }
     requires moment { IfSome until (λ moment. moment < 2 ^ 65) }
-    ensures text { result.items ≡ lines_text (binding_fields address port state.now claimant until ∷ []) }
-    ensures size { array_vec_len result ≤ 78 }
+    ensures text { result.items ≡ lines_text (binding_fields vlan address port state.now claimant until ∷ []) }
+    ensures size { array_vec_len result ≤ 83 }
 {
-    let text = put_addr(address);
+    let text = put_key(vlan, address);
     let mut line = Line::new();
     put_octets(&mut line, text.as_bytes());
     put_port(&mut line, port);

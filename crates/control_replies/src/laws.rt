@@ -24,13 +24,13 @@ pub fn refusals_fit()
     ensures { (refusal : Refusal) → length (refusal_text refusal) ≤ REFUSAL_OCTETS }
 {}
 
-/// Law: an address has at most two lines, of 78 octets each, so that the lines of 1,024 addresses fit a reply.
+/// Law: an address of a VLAN has at most two lines, of 83 octets each, so that the lines of 1,024 addresses fit a reply.
 pub fn bindings_fit()
-    ensures row { (times : Times) (row : Row) → times.test < 2 ^ 64 → IsStored row
+    ensures row { (times : Times) (row : ℕ × Row) → times.test < 2 ^ 64 → IsStored row
         → length (binding_lines times row) ≤ BINDING_OCTETS }
-    ensures rows { (times : Times) (rows : List Row) → times.test < 2 ^ 64 → AllByRecursion IsStored rows
+    ensures rows { (times : Times) (rows : List (ℕ × Row)) → times.test < 2 ^ 64 → AllByRecursion IsStored rows
         → length (all_binding_lines times rows) ≤ BINDING_OCTETS * length rows }
-    ensures whole { (times : Times) (rows : List Row) → times.test < 2 ^ 64 → AllByRecursion IsStored rows
+    ensures whole { (times : Times) (rows : List (ℕ × Row)) → times.test < 2 ^ 64 → AllByRecursion IsStored rows
         → length rows ≤ 1024
         → length (bindings_text times rows) ≤ REPLY_OCTETS }
 {}
@@ -42,10 +42,10 @@ pub fn ports_fit()
         → length (ports_text rows) ≤ REPLY_OCTETS }
 {}
 
-/// Law: the line of a station has at most 42 octets, so that those of 4,096 stations fit a reply.
+/// Law: the line of a station has at most 46 octets, so that those of 32,768 stations fit a reply.
 pub fn stations_fit()
-    ensures row { (row : Mac × Port × ℕ) → IsStation row → length (station_line row) ≤ STATION_OCTETS }
-    ensures whole { (rows : List (Mac × Port × ℕ)) → AllByRecursion IsStation rows → length rows ≤ 4096
+    ensures row { (row : ℕ × Mac × Port × ℕ) → IsStation row → length (station_line row) ≤ STATION_OCTETS }
+    ensures whole { (rows : List (ℕ × Mac × Port × ℕ)) → AllByRecursion IsStation rows → length rows ≤ 32768
         → length (stations_text rows) ≤ REPLY_OCTETS }
 {}
 

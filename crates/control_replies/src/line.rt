@@ -1,6 +1,6 @@
 //! A line of a reply, field by field.
 
-ghost use Rattle.std.specs.Prelude.{◌≡◌, ◌+◌, ◌≤◌, ◌∷◌, ◌++◌, length, decimal};
+ghost use Rattle.std.specs.Prelude.{◌≡◌, ◌+◌, ◌≤◌, ◌<◌, ◌^◌, ◌∷◌, ◌++◌, length, decimal};
 ghost use Rattle.arrayvec.specs.ArrayVec.{array_vec_len};
 ghost use Rattle.savi_kinds.specs.Characters.{space};
 ghost use Rattle.hist_store.specs.PortTexts.{port_text};
@@ -8,7 +8,7 @@ ghost use Rattle.hist_store.specs.PortTexts.{port_text};
 use arrayvec::ArrayVec;
 use savi_kinds::Port;
 
-/// At least the octets of the longest line, 79, which is that of a port.
+/// At least the octets of the longest line, 83, which is that of a binding.
 pub const LINE_OCTETS: usize = 96;
 
 /// A buffer for one line.
@@ -44,6 +44,18 @@ pub fn put_number(into: &mut Line, n: u64)
 {
     let mut digits = itoa::Buffer::new();
     put_word(into, digits.format(n));
+}
+
+// Appends a space and the moment (ms) at which a station ends, which has at most 19 digits.
+#[tactic(auto, using(crate::proofs::Lines::nineteen_digits))]
+pub fn put_moment(into: &mut Line, moment: u64)
+    requires moment { moment < 2 ^ 63 }
+    requires room { array_vec_len into.old + 20 ≤ 96 }
+    ensures text { into.new.items ≡ into.old.items ++ space ∷ decimal moment }
+    ensures size { array_vec_len into.new ≤ array_vec_len into.old + 20 }
+{
+    let mut digits = itoa::Buffer::new();
+    put_word(into, digits.format(moment));
 }
 
 // Appends a space and a port's number.

@@ -4,19 +4,20 @@ ghost use Rattle.std.specs.Prelude.{◌≡◌, ◌+◌, ◌<◌, ◌^◌};
 
 use crate::binding_line::binding_line;
 use crate::counts::Counts;
-use crate::line::{Line, put_number, put_octets, put_port, put_port_number, put_word};
+use crate::line::{Line, put_moment, put_number, put_octets, put_port, put_port_number, put_word};
 use crate::port_row::PortRow;
 use crate::refusal::Refusal;
 use dhcp_states::Bound;
 use fcfs_states::{Fcfs, Times};
 use hist_store::{RULES, name_of};
 use mix_rules::AddrState;
-use savi_kinds::{Addr, Mac, Moment, Port, put_mac};
+use savi_kinds::{Addr, Mac, Moment, Port, put_mac_key};
 use std::alloc::{AllocError, Global};
 use std::marker::Model;
 
-/// The room for a reply, in octets: more than the longest has, that of `show stations` with 4,096 stations.
-pub const REPLY_OCTETS: usize = 262_144;
+/// The room for a reply, in octets: more than the longest has, that of `show stations` with 256 stations at each of 16 ports in
+/// each of 8 VLANs.
+pub const REPLY_OCTETS: usize = 2_097_152;
 
 /// The most octets of a refusal.
 pub const REFUSAL_OCTETS: usize = 23;
@@ -27,14 +28,14 @@ pub const OK_OCTETS: usize = 3;
 /// The octets of the last line of what a `show` prints.
 pub const END_OCTETS: usize = 4;
 
-/// The most octets of the lines of one address: two, each of at most 78.
-pub const BINDING_OCTETS: usize = 156;
+/// The most octets of the lines of one address: two, each of at most 83.
+pub const BINDING_OCTETS: usize = 166;
 
 /// The most octets of a port's line.
 pub const PORT_OCTETS: usize = 79;
 
 /// The most octets of a station's line.
-pub const STATION_OCTETS: usize = 42;
+pub const STATION_OCTETS: usize = 46;
 
 /// The most octets of all counters: 27 lines, each of at most 39, and the last line.
 pub const COUNTERS_OCTETS: usize = 1_057;
@@ -52,7 +53,7 @@ impl Model for Reply {
 
     ghost view = { λ r. r.octets.items };
 
-    ghost invariant = { λ r. (262144 ≤ vec_capacity r.octets) × (vec_len r.octets ≤ 262144) };
+    ghost invariant = { λ r. (2097152 ≤ vec_capacity r.octets) × (vec_len r.octets ≤ 2097152) };
 }
 
 impl Reply {
@@ -63,7 +64,7 @@ impl Reply {
     ghost use Rattle.control_replies.specs.Shows.{port_line, station_line};
     ghost use Rattle.control_replies.specs.Counters.{all_rules, counters_text, counter_fields, other_lines, rule_fields};
 
-    /// An empty reply with room for 262,144 octets. `Err` is want of memory.
+    /// An empty reply with room for 2,097,152 octets. `Err` is want of memory.
     pub fn make(alloc: Global) -> Result<Reply, AllocError>
         ensures { IfOk result (λ reply. reply ≡ []) }
     {
@@ -117,58 +118,58 @@ impl Reply {
         self.append(b"end\n");
     }
 
-    /// Appends the lines of an address, none to two, of at most 78 octets each: that the operator has fixed it (`static`);
-    /// else the binding by DHCPv6, and then the state of first come, first served.
-    pub fn put_binding(&mut self, times: &Times, address: Addr, state: &AddrState)
-        requires { length self.old + BINDING_OCTETS ≤ REPLY_OCTETS }
-        ensures text { self.new ≡ self.old ++ binding_lines times.now (record { address = address; state = state.now }) }
+    /// Appends the lines of an address in a VLAN, none to two, of at most 83 octets each: that the operator has fixed it
+    /// (`static`); else the binding by DHCPv6, and then the state of first come, first served.
+    pub fn put_binding(&mut self, times: &Times, vlan: u16, address: Addr, state: &AddrState)
+        requires vlan { vlan ≤ 4094 }
+        requires room { length self.old + BINDING_OCTETS ≤ REPLY_OCTETS }
+        ensures text { self.new ≡ self.old ++ binding_lines times.now (vlan, record { address = address; state = state.now }) }
         ensures size { length self.new ≤ length self.old + BINDING_OCTETS }
     {
         if let Some(port) = state.fixed {
-            self.put_binding_line(address, port, "static", None, None);
+            self.put_binding_line(vlan, address, port, "static", None, None);
             return;
         }
         if let Some(bound) = state.dhcp {
-            self.put_bound(address, bound);
+            self.put_bound(vlan, address, bound);
         }
-        self.put_fcfs(times, address, state.fcfs);
+        self.put_fcfs(times, vlan, address, state.fcfs);
     }
 
     // Appends the line of a binding by DHCPv6.
-    fn put_bound(&mut self, address: Addr, bound: Bound)
-        requires { length self.old + 78 ≤ REPLY_OCTETS }
-        ensures text { self.new ≡ self.old ++ lines_text (bound_lines address (Some bound)) }
-        ensures size { length self.new ≤ length self.old + 78 }
+    fn put_bound(&mut self, vlan: u16, address: Addr, bound: Bound)
+        requires vlan { vlan ≤ 4094 }
+        requires room { length self.old + 83 ≤ REPLY_OCTETS }
+        ensures text { self.new ≡ self.old ++ lines_text (bound_lines vlan address (Some bound)) }
+        ensures size { length self.new ≤ length self.old + 83 }
     {
         let until = bound.until.map(u128::from);
-        self.put_binding_line(address, bound.p, "bound", None, until);
+        self.put_binding_line(vlan, address, bound.p, "bound", None, until);
     }
 
     // Appends the line of a state of first come, first served, where it is one.
-    fn put_fcfs(&mut self, times: &Times, address: Addr, state: Fcfs)
-        requires { length self.old + 78 ≤ REPLY_OCTETS }
-        ensures text { self.new ≡ self.old ++ lines_text (fcfs_lines times.now address state) }
-        ensures size { length self.new ≤ length self.old + 78 }
+    fn put_fcfs(&mut self, times: &Times, vlan: u16, address: Addr, state: Fcfs)
+        requires vlan { vlan ≤ 4094 }
+        requires room { length self.old + 83 ≤ REPLY_OCTETS }
+        ensures text { self.new ≡ self.old ++ lines_text (fcfs_lines times.now vlan address state) }
+        ensures size { length self.new ≤ length self.old + 83 }
     {
         match state {
             Fcfs::NoBind => {}
             Fcfs::Tentative { p, since, .. } => {
-                self.put_binding_line(address, p, "tentative", None, Some(test_end(since, times)));
+                let until = Some(test_end(since, times));
+                self.put_binding_line(vlan, address, p, "tentative", None, until);
             }
             Fcfs::Valid { p, until } => {
-                self.put_binding_line(address, p, "valid", None, Some(u128::from(until)));
+                self.put_binding_line(vlan, address, p, "valid", None, Some(u128::from(until)));
             }
             Fcfs::TestLt { p, since, .. } => {
-                self.put_binding_line(address, p, "testing-lt", None, Some(test_end(since, times)));
+                let until = Some(test_end(since, times));
+                self.put_binding_line(vlan, address, p, "testing-lt", None, until);
             }
             Fcfs::TestVp { p, q, since, .. } => {
-                self.put_binding_line(
-                    address,
-                    p,
-                    "testing-vp",
-                    Some(q),
-                    Some(test_end(since, times)),
-                );
+                let until = Some(test_end(since, times));
+                self.put_binding_line(vlan, address, p, "testing-vp", Some(q), until);
             }
         }
     }
@@ -176,19 +177,21 @@ impl Reply {
     // Appends the line of a binding: `state` is the word for its state, `until` the moment (ms) at which it ends.
     fn put_binding_line(
         &mut self,
+        vlan: u16,
         address: Addr,
         port: Port,
         state: &str,
         claimant: Option<Port>,
         until: Option<u128>,
     )
+        requires vlan { vlan ≤ 4094 }
         requires short { length state.now ≤ 10 }
         requires moment { IfSome until (λ moment. moment < 2 ^ 65) }
-        requires room { length self.old + 78 ≤ REPLY_OCTETS }
-        ensures text { self.new ≡ self.old ++ lines_text (binding_fields address port state.now claimant until ∷ []) }
-        ensures size { length self.new ≤ length self.old + 78 }
+        requires room { length self.old + 83 ≤ REPLY_OCTETS }
+        ensures text { self.new ≡ self.old ++ lines_text (binding_fields vlan address port state.now claimant until ∷ []) }
+        ensures size { length self.new ≤ length self.old + 83 }
     {
-        let line = binding_line(address, port, state, claimant, until);
+        let line = binding_line(vlan, address, port, state, claimant, until);
         self.append(line.as_slice());
     }
 
@@ -209,17 +212,20 @@ impl Reply {
         self.append(line.as_slice());
     }
 
-    /// Appends the line of a station, which ends at `until` (ms), of at most 42 octets.
-    pub fn put_station(&mut self, mac: Mac, port: Port, until: Moment)
-        requires { length self.old + STATION_OCTETS ≤ REPLY_OCTETS }
-        ensures text { self.new ≡ self.old ++ station_line (mac, port, until) }
+    /// Appends the line of a station of a VLAN, of at most 46 octets. It ends at `until` (ms), 300 s after a moment of at most
+    /// 2^62.
+    pub fn put_station(&mut self, vlan: u16, mac: Mac, port: Port, until: Moment)
+        requires vlan { vlan ≤ 4094 }
+        requires moment { until < 2 ^ 63 }
+        requires room { length self.old + STATION_OCTETS ≤ REPLY_OCTETS }
+        ensures text { self.new ≡ self.old ++ station_line (vlan, mac, port, until) }
         ensures size { length self.new ≤ length self.old + STATION_OCTETS }
     {
-        let text = put_mac(mac);
+        let text = put_mac_key(vlan, mac);
         let mut line = Line::new();
         put_octets(&mut line, text.as_bytes());
         put_port(&mut line, port);
-        put_number(&mut line, until);
+        put_moment(&mut line, until);
         line.push(b'\n');
         self.append(line.as_slice());
     }

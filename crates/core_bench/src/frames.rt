@@ -1,9 +1,9 @@
 //! Frames of stations, and the addresses from which they come.
 
 ghost use Rattle.std.specs.Prelude.{◌≡◌, ◌≤◌, length};
-ghost use Rattle.frame_class.specs.ClassOf.{class_of};
+ghost use Rattle.frame_class.specs.Seen.{seen_of};
 
-use frame_class::{Class, a_frame_has_its_class, class};
+use frame_class::{Seen, a_frame_is_seen_once, seen};
 use probe_write::probe;
 use savi_kinds::{Addr, Mac, PORTS_MOST, Port, Prefix};
 use std::alloc::{AllocError, Global};
@@ -21,27 +21,23 @@ const DESTINATION: Addr = Addr(Prefix::LINK_LOCAL.net.0 + 0xfe);
 /// limit 64 (RFC 2464 section 3, RFC 8200 section 3).
 const BEFORE_SOURCE: [u8; 10] = [0x86, 0xdd, 0x60, 0, 0, 0, 0, 0, 59, 64];
 
-/// A frame, what it is, and the port at which it comes in.
+/// A frame, what is seen of it, and the port at which it comes in.
 #[derive(Drop)]
 pub struct Frame {
     pub port: Port,
     pub octets: Vec<u8>,
-    pub class: Class,
+    pub seen: Seen,
     ghost short: { length octets.items ≤ 1518 },
-    ghost read: { class ≡ class_of octets.items },
+    ghost read: { seen ≡ seen_of octets.items },
 }
 
-// Reads what these octets are.
+// Reads what is seen of these octets.
 fn read_frame(port: Port, octets: Vec<u8>) -> Frame
     requires { length octets.items ≤ 1518 }
 {
-    let class = class(octets.as_slice());
-    a_frame_has_its_class();
-    Frame {
-        port,
-        octets,
-        class,
-    }
+    let seen = seen(octets.as_slice());
+    a_frame_is_seen_once();
+    Frame { port, octets, seen }
 }
 
 // The n-th number of a row in no order (the finalizer of MurmurHash3).

@@ -8,7 +8,7 @@ ghost use Rattle.savi_core.specs.Machines.{base_of};
 ghost use Rattle.savi_kinds.specs.declared.entry.Who.TheVariants.{Ingress};
 
 use crate::frames::{Frame, HOSTS, port};
-use frame_class::a_frame_has_its_class;
+use frame_class::a_frame_is_seen_once;
 use savi_conf::read_plan;
 use savi_core::{Batch, Core, Event, Stepped};
 use savi_kinds::{DEPTH_MOST, Moment, PORTS_MOST, Plan, Port, Verdict, Who};
@@ -64,12 +64,12 @@ pub fn enter(core: &mut Core, frame: &Frame, stamp: Moment) -> bool {
     if !is_open(core, frame.port) {
         return false;
     }
-    a_frame_has_its_class();
+    a_frame_is_seen_once();
     let stepped = core.step(Event::Frame {
         port: frame.port,
         stamp,
         octets: frame.octets.as_slice(),
-        class: &frame.class,
+        seen: &frame.seen,
     });
     match stepped {
         Stepped::Done(entry) => matches!(entry.verdict, Some(Verdict::Pass(_))),

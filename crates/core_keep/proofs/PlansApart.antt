@@ -6,10 +6,12 @@ use Rattle.savi_kinds.specs.declared.plan.Method.{Method}
 use Rattle.savi_kinds.specs.declared.plan.Method.TheVariants.{Fcfs, Dhcp, Mixed}
 use Rattle.savi_kinds.specs.declared.plan.Format.{Format}
 use Rattle.savi_kinds.specs.declared.plan.Format.TheVariants.{Pcap, Stream}
+use Rattle.savi_kinds.specs.declared.plan.Vlan.{Vlan}
+use Rattle.savi_kinds.specs.declared.plan.Vlan.TheVariants.{Access, Trunk}
 use Rattle.savi_kinds.specs.declared.plan.Plan.{Plan}
 use Rattle.savi_kinds.specs.Ports.{number_of}
 use Rattle.core_keep.specs.PortNumbers.{port_at}
-use Rattle.core_keep.specs.PlanCodes.{bit_code, text_code, each_code, list_code, role_number, method_number, format_number, port_code, prefix_code, names_code, plan_code}
+use Rattle.core_keep.specs.PlanCodes.{bit_code, text_code, each_code, list_code, role_number, method_number, format_number, vlan_code, port_code, prefix_code, names_code, plan_code}
 use Rattle.core_keep.proofs.RowsRead.{port_again}
 
 -- what is coded can be read off the front: the value, and what follows
@@ -90,20 +92,38 @@ both_read first second one two a b c d r s e =
     let t = two c d r s h.1 in
     (h.0, t.0, t.1)
 
+vlan_read : IsCode vlan_code
+vlan_read (Access v) (Access w) r s e = let h = heads (heads e).1 in (λ i. Access (h.0 i), h.1)
+vlan_read (Access v) (Trunk ws) r s e = absurd (apart e)
+vlan_read (Trunk vs) (Access w) r s e = absurd (apart (sym e))
+vlan_read (Trunk vs) (Trunk ws) r s e =
+    let t = text_read vs.items ws.items r s (heads e).1 in
+    (λ i. Trunk (record { items = t.0 i }), t.1)
+
+-- the names of a port, and behind them its VLANs
+names_and_vlan : (a b c d : List ℕ) (v w : Vlan) (r s : List ℕ) → (text_code a ++ (text_code c ++ vlan_code v)) ++ r ≡ (text_code b ++ (text_code d ++ vlan_code w)) ++ s
+    → (a ≡ b) × (c ≡ d) × (v ≡ w) × (r ≡ s)
+names_and_vlan a b c d v w r s e =
+    let h =
+    text_read a b ((text_code c ++ vlan_code v) ++ r) ((text_code d ++ vlan_code w) ++ s)
+    (sym (append_assoc (text_code a) (text_code c ++ vlan_code v) r) ∙ e ∙ append_assoc (text_code b) (text_code d ++ vlan_code w) s) in
+    let t = both_read text_code vlan_code text_read vlan_read c d v w r s h.1 in
+    (h.0, t.0, t.1, t.2)
+
 port_read : IsCode port_code
 port_read a b r s e =
     let n = heads e in let k = heads n.1 in let f = heads k.1 in
     let number = one_by number_of port_at port_again a.number b.number n.0 in
     let role = one_by role_number role_at role_again a.role b.role k.0 in
     let format = one_by format_number format_at format_again a.format b.format f.0 in
-    let t = both_read text_code text_code text_read text_read a.input b.input a.output b.output r s f.1 in
-    (λ i. record { number = number i; role = role i; format = format i; input = t.0 i; output = t.1 i }, t.2)
+    let t = names_and_vlan a.input b.input a.output b.output a.vlan b.vlan r s f.1 in
+    (λ i. record { number = number i; role = role i; format = format i; input = t.0 i; output = t.1 i; vlan = t.2 i }, t.3)
 
 prefix_read : IsCode prefix_code
 prefix_read a b r s e =
-    let n = heads e in let l = heads n.1 in let m = heads l.1 in
+    let n = heads e in let l = heads n.1 in let m = heads l.1 in let v = heads m.1 in
     let method = one_by method_number method_at method_again a.method b.method m.0 in
-    (λ i. record { prefix = record { net = record { 0 = n.0 i }; len = l.0 i }; method = method i }, m.1)
+    (λ i. record { prefix = record { net = record { 0 = n.0 i }; len = l.0 i }; method = method i; vlan = v.0 i }, v.1)
 
 names_read : IsCode names_code
 names_read None None r s e = (refl, (heads e).1)

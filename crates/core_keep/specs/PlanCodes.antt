@@ -7,6 +7,8 @@ use Rattle.savi_kinds.specs.declared.plan.Method.{Method}
 use Rattle.savi_kinds.specs.declared.plan.Method.TheVariants.{Fcfs, Dhcp, Mixed}
 use Rattle.savi_kinds.specs.declared.plan.Format.{Format}
 use Rattle.savi_kinds.specs.declared.plan.Format.TheVariants.{Pcap, Stream}
+use Rattle.savi_kinds.specs.declared.plan.Vlan.{Vlan}
+use Rattle.savi_kinds.specs.declared.plan.Vlan.TheVariants.{Access, Trunk}
 use Rattle.savi_kinds.specs.declared.plan.PortPlan.{PortPlan}
 use Rattle.savi_kinds.specs.declared.plan.PrefixPlan.{PrefixPlan}
 use Rattle.savi_kinds.specs.declared.plan.Plan.{Plan}
@@ -41,11 +43,18 @@ abbrev pub format_number : Format → ℕ
 format_number Pcap = 0
 format_number Stream = 1
 
+-- an access port's, or those that a trunk lists
+abbrev pub vlan_code : Vlan → List ℕ
+vlan_code (Access v) = 0 ∷ v ∷ []
+vlan_code (Trunk vs) = 1 ∷ text_code vs.items
+
 abbrev pub port_code : PortPlan → List ℕ
-port_code p = number_of p.number ∷ role_number p.role ∷ format_number p.format ∷ (text_code p.input ++ text_code p.output)
+port_code p =
+    number_of p.number ∷ role_number p.role ∷ format_number p.format
+    ∷ (text_code p.input ++ (text_code p.output ++ vlan_code p.vlan))
 
 abbrev pub prefix_code : PrefixPlan → List ℕ
-prefix_code p = p.prefix.net.0 ∷ p.prefix.len ∷ method_number p.method ∷ []
+prefix_code p = p.prefix.net.0 ∷ p.prefix.len ∷ method_number p.method ∷ p.vlan ∷ []
 
 abbrev pub names_code : Option (List ℕ × List ℕ) → List ℕ
 names_code None = 0 ∷ []

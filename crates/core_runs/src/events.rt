@@ -6,7 +6,7 @@ ghost use Rattle.savi_history.specs.Passes.{has_pass, has_port};
 ghost use Rattle.savi_history.specs.Legal.{IsOpen};
 ghost use Rattle.savi_core.specs.Machines.{base_of};
 
-use frame_class::class;
+use frame_class::seen;
 use savi_core::{Batch, Core, Event, Reply, Stepped};
 use savi_kinds::{CONTROL_LINE_OCTETS, DEPTH_MOST, FRAME_OCTETS_MOST, How, Plan, Port, Who};
 
@@ -15,12 +15,12 @@ pub fn frame(core: &mut Core, port: Port, stamp: u64, octets: &[u8]) -> Option<S
     if octets.len() > FRAME_OCTETS_MOST || !is_open(core, Who::Ingress(port)) {
         return None;
     }
-    let class = class(octets);
+    let seen = seen(octets);
     Some(core.step(Event::Frame {
         port,
         stamp,
         octets,
-        class: &class,
+        seen: &seen,
     }))
 }
 

@@ -7,6 +7,6 @@ use savi_kinds::{Addr, Moment};
 pub enum Item {
     /// The frame of the entry with this number.
     Frame(u64),
-    /// A probe for this target, with the moment (ms) at which it fell due.
-    Probe { due: Moment, target: Addr },
+    /// A probe for this target in the VLAN of this number, with the moment (ms) at which it fell due.
+    Probe { due: Moment, target: Addr, vid: u16 },
 }

@@ -2,7 +2,9 @@
 
 ghost use Rattle.std.specs.Prelude.{◌≡◌, ◌<◌, ◌≤◌, ◌↔◌, length, take, IfOk, IsOk};
 ghost use Rattle.eth_frame.specs.Frame.{header_of};
+ghost use Rattle.eth_frame.specs.Tags.{without_tag};
 
+use crate::tag_reader::{INNER_KIND_AT, TAGGED_OCTETS_LEAST};
 use byteorder::{BigEndian, ByteOrder};
 use savi_kinds::{FRAME_OCTETS_LEAST, FRAME_OCTETS_MOST, Mac};
 
@@ -13,7 +15,7 @@ const MAC_LEN: usize = 6;
 const SOURCE_AT: usize = 6;
 
 /// Where the EtherType begins.
-const KIND_AT: usize = 12;
+pub(crate) const KIND_AT: usize = 12;
 
 /// The header of a frame.
 #[derive(Clone, Copy, PartialEq, Eq, Debug)]
@@ -52,6 +54,17 @@ pub fn read(frame: &[u8]) -> Result<Eth, EthFault>
         src: mac_of(&frame[SOURCE_AT..]),
         kind: BigEndian::read_u16(&frame[KIND_AT..]),
     })
+}
+
+/// The header that a frame has without its tag: the EtherType is the one behind the tag. O(1).
+pub fn untagged_header(frame: &[u8]) -> Eth
+    requires { TAGGED_OCTETS_LEAST ≤ length frame.now }
+    ensures { result ≡ header_of (without_tag frame.now) }
+{
+    let dst = mac_of(frame);
+    let src = mac_of(&frame[SOURCE_AT..]);
+    let kind = BigEndian::read_u16(&frame[INNER_KIND_AT..]);
+    Eth { dst, src, kind }
 }
 
 /// The MAC address in the first six octets.

@@ -7,6 +7,7 @@ use Rattle.std.proofs.lemmas.Bool.Decides.{Decides-eqb, Decides-and, Decides-or,
 use Rattle.savi_kinds.specs.Prefixes.{LiesIn, multicast}
 use Rattle.eth_frame.specs.declared.header.Eth.{Eth}
 use Rattle.eth_frame.specs.Frame.{header_of as ethernet_of, payload_of}
+use Rattle.eth_frame.specs.Tags.{is_tag}
 use Rattle.v6_chain.specs.declared.packet.Ip.{Ip}
 use Rattle.v6_chain.specs.declared.packet.IpFault.{IpFault}
 use Rattle.v6_chain.specs.declared.packet.IpFault.TheVariants.{Short, Version, Truncated, Multicast}
@@ -32,7 +33,7 @@ use Rattle.frame_class.specs.declared.classes.Class.TheVariants.{Runt, Tagged, O
 use Rattle.frame_class.specs.declared.classes.Read.{Read}
 use Rattle.frame_class.specs.declared.classes.Read.TheVariants.{Icmp, Udp, Plain}
 use Rattle.frame_class.specs.Reading.{ipv6_type, IsTag, HasHeader, destination_port, first_of_payload, IsNdOf, udp_length, udp_payload, IsForDhcp, IsDhcpOf, IsMessageRead, IsReadBy, IsReadOf, IsPacketClass, IsClassOf}
-use Rattle.frame_class.specs.ClassOf.{is_tag, is_packet, discovery_of, is_for_dhcp, dhcp_message_of, message_read_of, read_by, read_of, packet_class_of, typed_class_of, class_of}
+use Rattle.frame_class.specs.ClassOf.{is_packet, discovery_of, is_for_dhcp, dhcp_message_of, message_read_of, read_by, read_of, packet_class_of, typed_class_of, class_of}
 use Rattle.frame_class.proofs.OneClass.{one_class}
 use Rattle.frame_class.proofs.Layers.{packet_class_is, whole_dhcp}
 
@@ -122,7 +123,8 @@ packet_is eth payload =
     (λ packet. (refl, decided.0 packet, read_is ip payload))
     (λ none. (refl, refused payload (not_from_Decides (is_packet payload) decided none)))
 
-tag_decided : (kind : ℕ) → Decides (is_tag kind) (IsTag kind)
+-- the test of a tag's EtherType
+pub tag_decided : (kind : ℕ) → Decides (is_tag kind) (IsTag kind)
 tag_decided kind = Decides-or (kind == 0x8100) _ (Decides-eqb kind 0x8100) (Decides-eqb kind 0x88a8)
 
 typed_is : (frame : List ℕ) (eth : Eth) → HasHeader frame eth → IsClassOf frame (typed_class_of eth (payload_of frame))

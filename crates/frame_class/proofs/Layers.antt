@@ -1,5 +1,5 @@
 -- What each layer adds to the reading of a frame.
-use Rattle.std.proofs.Common.{◌≡◌, ℕ, ◌+◌, ◌-◌, Bool, List, length, take, drop, Result, Ok, Err, sym, ap, ◌∙◌, subst, inr, arith}
+use Rattle.std.proofs.Common.{◌≡◌, ◌≢◌, ℕ, ◌+◌, ◌-◌, Bool, List, length, take, drop, Result, Ok, Err, sym, ap, ◌∙◌, subst, inr, arith}
 use Rattle.std.specs.Result.{result_ok}
 use Rattle.std.proofs.lemmas.List.{take_rest}
 use Rattle.eth_frame.specs.declared.header.Eth.{Eth}
@@ -14,7 +14,7 @@ use Rattle.dhcp6_read.specs.declared.message.DhcpFault.{DhcpFault}
 use Rattle.dhcp6_read.specs.Message.{Reads as ReadsDhcp}
 use Rattle.frame_class.specs.declared.classes.Class.{Class}
 use Rattle.frame_class.specs.declared.classes.Class.TheVariants.{Runt, Tagged, Other, BadIp, Ip6}
-use Rattle.frame_class.specs.Reading.{ipv6_type, HasHeader, udp_payload, IsForDhcp, IsDhcpOf, IsReadOf, IsPacketClass, IsUpperClass, IsClassOf}
+use Rattle.frame_class.specs.Reading.{ipv6_type, IsTag, HasHeader, udp_payload, IsForDhcp, IsDhcpOf, IsReadOf, IsTypedClass, IsPacketClass, IsUpperClass, IsClassOf}
 
 -- the octets from a place of the body on are the message there
 pub message_is : (ip : Ip) (payload : List ℕ) (len place at : ℕ) → len ≡ ip.len → place ≡ at
@@ -53,3 +53,23 @@ packet_class_is frame eth (Ip6 header ip read) has kind is =
 packet_class_is frame eth Runt has kind is = absurd is
 packet_class_is frame eth (Tagged header) has kind is = absurd is
 packet_class_is frame eth (Other header) has kind is = absurd is
+
+-- what stands behind a header with the EtherType of IPv6 is what its packet is
+pub typed_packet : (eth : Eth) (payload : List ℕ) (class : Class) → eth.kind ≡ ipv6_type → IsPacketClass eth payload class → IsTypedClass eth payload class
+typed_packet eth payload (BadIp header) kind is = (kind, is)
+typed_packet eth payload (Ip6 header ip read) kind is = (kind, is)
+typed_packet eth payload Runt kind is = absurd is
+typed_packet eth payload (Tagged header) kind is = absurd is
+typed_packet eth payload (Other header) kind is = absurd is
+
+-- a frame is what its header and what stands behind it are
+pub typed_class_is : (frame : List ℕ) (eth : Eth) (class : Class) → HasHeader frame eth → IsTypedClass eth (payload_of frame) class → IsClassOf frame class
+typed_class_is frame eth Runt has is = absurd is
+typed_class_is frame eth (Tagged header) has is =
+    let P : Eth → Type 0 = λ e. HasHeader frame e × IsTag e.kind in
+    subst P (sym is.0) (has, is.1)
+typed_class_is frame eth (Other header) has is =
+    let P : Eth → Type 0 = λ e. HasHeader frame e × (e.kind ≢ ipv6_type) × ¬ IsTag e.kind in
+    subst P (sym is.0) (has, is.1, is.2)
+typed_class_is frame eth (BadIp header) has is = packet_class_is frame eth (BadIp header) has is.0 is.1
+typed_class_is frame eth (Ip6 header ip read) has is = packet_class_is frame eth (Ip6 header ip read) has is.0 is.1

@@ -2,7 +2,9 @@
 use Rattle.std.proofs.Common.{◌≡◌, ℕ, Bool, List, Option, Some, None, Ok, Err, refl, sym, ap, ◌∙◌, subst, inl, inr, arith}
 use Rattle.savi_kinds.specs.Prefixes.{LiesIn, multicast}
 use Rattle.eth_frame.specs.declared.header.Eth.{Eth}
+use Rattle.eth_frame.specs.declared.vlan_tag.Tag.{Tag}
 use Rattle.eth_frame.specs.Frame.{payload_of}
+use Rattle.eth_frame.specs.Tags.{inner}
 use Rattle.v6_chain.specs.declared.packet.Ip.{Ip}
 use Rattle.v6_chain.specs.declared.packet.IpFault.{IpFault}
 use Rattle.v6_chain.specs.declared.packet.IpFault.TheVariants.{Short, Version, Truncated, Multicast}
@@ -17,9 +19,11 @@ use Rattle.dhcp6_read.specs.declared.message.Dhcp.{Dhcp}
 use Rattle.dhcp6_read.proofs.Readings.{same_dhcp_reading}
 use Rattle.frame_class.specs.declared.classes.Class.{Class}
 use Rattle.frame_class.specs.declared.classes.Class.TheVariants.{Runt, Tagged, Other, BadIp, Ip6}
+use Rattle.frame_class.specs.declared.classes.Seen.{Seen}
 use Rattle.frame_class.specs.declared.classes.Read.{Read}
 use Rattle.frame_class.specs.declared.classes.Read.TheVariants.{Icmp, Udp, Plain}
 use Rattle.frame_class.specs.Reading.{ipv6_type, IsTag, HasHeader, IsNdOf, udp_payload, IsDhcpOf, IsMessageRead, IsReadBy, IsReadOf, IsClassOf}
+use Rattle.frame_class.specs.Seen.{IsSeen}
 
 one_nd : (ip : Ip) (message : List ℕ) (fragmented : Bool) (a b : Option Nd) → IsNdOf ip message fragmented a → IsNdOf ip message fragmented b → a ≡ b
 one_nd ip message fragmented None None p q = refl
@@ -137,3 +141,11 @@ one_class frame (Ip6 eth ip read) (Ip6 header packet other) p q =
     let P : Ip → Type 0 = λ i. IsReadOf i (payload_of frame) other in
     let reads : read ≡ other = one_read ip (payload_of frame) read other p.3 (subst P same q.3) in
     cc
+
+-- a frame is seen in one way
+pub one_seen : (frame : List ℕ) (a b : Seen) → IsSeen frame a → IsSeen frame b → a ≡ b
+one_seen frame a b p q =
+    let with : Tag → Class → Seen = λ tag class. record { tag = tag; class = class } in
+    let tags : with a.tag a.class ≡ with b.tag a.class = ap (λ (tag : Tag). with tag a.class) (p.tag ∙ sym q.tag) in
+    let classes : with b.tag a.class ≡ with b.tag b.class = ap (λ (class : Class). with b.tag class) (one_class (inner frame) a.class b.class p.class q.class) in
+    tags ∙ classes

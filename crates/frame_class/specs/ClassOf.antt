@@ -5,6 +5,7 @@ use Rattle.std.specs.Result.{result_ok}
 use Rattle.savi_kinds.specs.Prefixes.{multicast}
 use Rattle.eth_frame.specs.declared.header.Eth.{Eth}
 use Rattle.eth_frame.specs.Frame.{header_of as ethernet_of, payload_of}
+use Rattle.eth_frame.specs.Tags.{is_tag}
 use Rattle.v6_chain.specs.declared.packet.Ip.{Ip}
 use Rattle.v6_chain.specs.declared.outcome.Chain.{Chain}
 use Rattle.v6_chain.specs.declared.outcome.Chain.TheVariants as chains
@@ -22,10 +23,6 @@ use Rattle.frame_class.specs.declared.classes.Class.TheVariants.{Runt, Tagged, O
 use Rattle.frame_class.specs.declared.classes.Read.{Read}
 use Rattle.frame_class.specs.declared.classes.Read.TheVariants.{Bad, Hidden, Unknown, Later, Icmp, Udp, Plain}
 use Rattle.frame_class.specs.Reading.{ipv6_type, destination_port, first_of_payload, udp_length, udp_payload}
-
--- the EtherType of a customer tag or of a service tag (IEEE 802.1Q)
-abbrev pub is_tag : ℕ → Bool
-is_tag kind = (kind == 0x8100) || (kind == 0x88a8)
 
 -- the octets begin with a whole packet of version 6 whose source is one host's (RFC 8200 section 3)
 abbrev pub is_packet : List ℕ → Bool

@@ -1,3 +1,4 @@
 pub mod Classes
 pub mod ClassOf
 pub mod Reading
+pub mod Seen

@@ -97,6 +97,14 @@ IsPacketClass eth payload (BadIp header) = (header ≡ eth) × ((fault : IpFault
 IsPacketClass eth payload (Ip6 header ip read) = (header ≡ eth) × IsPacket payload ip × IsReadOf ip payload read
 IsPacketClass eth payload _ = ⊥
 
+-- what a frame with this header is, by its EtherType and what stands behind the header
+abbrev pub IsTypedClass : Eth → List ℕ → Class → Type 0
+IsTypedClass eth payload Runt = ⊥
+IsTypedClass eth payload (Tagged header) = (header ≡ eth) × IsTag eth.kind
+IsTypedClass eth payload (Other header) = (header ≡ eth) × (eth.kind ≢ ipv6_type) × ¬ IsTag eth.kind
+IsTypedClass eth payload (BadIp header) = (eth.kind ≡ ipv6_type) × IsPacketClass eth payload (BadIp header)
+IsTypedClass eth payload (Ip6 header ip read) = (eth.kind ≡ ipv6_type) × IsPacketClass eth payload (Ip6 header ip read)
+
 -- what a frame with these headers is, by the message of its upper header
 abbrev pub IsUpperClass : Eth → Ip → ℕ → List ℕ → Bool → Class → Type 0
 IsUpperClass eth ip proto message fragmented (Ip6 header packet read) =

@@ -4,9 +4,18 @@ ghost use Rattle.std.specs.Prelude.{◌≡◌};
 ghost use Rattle.frame_class.specs.Classes.{eth_of};
 
 use dhcp6_read::Dhcp;
-use eth_frame::Eth;
+use eth_frame::{Eth, Tag};
 use nd_read::Nd;
 use v6_chain::Ip;
+
+/// What is seen of a frame of at most 1,518 octets.
+#[derive(PartialEq, Eq, Debug, Drop)]
+pub struct Seen {
+    /// Its VLAN tag (IEEE 802.1Q section 9).
+    pub tag: Tag,
+    /// What its inner frame is: the frame without a tag that names a VLAN.
+    pub class: Class,
+}
 
 /// What a frame of at most 1,518 octets is. It takes 1,952 octets in memory, as much as the longest message of DHCPv6 may
 /// say: so it is read once, and then lent.
@@ -14,7 +23,8 @@ use v6_chain::Ip;
 pub enum Class {
     /// Fewer than 14 octets: no frame (IEEE 802.3 section 3.1.1).
     Runt,
-    /// A frame with a VLAN tag (EtherType 0x8100 or 0x88A8, IEEE 802.1Q), behind which nothing is read.
+    /// A frame with a VLAN tag (EtherType 0x8100 or 0x88A8, IEEE 802.1Q), behind which nothing is read. An inner frame is
+    /// one of these where the tag names no VLAN.
     Tagged {
         eth: Eth,
     },

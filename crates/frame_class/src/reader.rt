@@ -1,25 +1,22 @@
 //! Reading a frame, layer by layer.
 
 ghost use Rattle.std.specs.Prelude.{◌≡◌, ◌+◌, ◌≤◌, ◌↔◌, IsTrue, length};
+ghost use Rattle.eth_frame.specs.Tags.{inner, tag_of, without_tag};
 ghost use Rattle.v6_chain.specs.Packet.{IsPacket};
 ghost use Rattle.v6_chain.specs.Outcome.{IsWholeUpper};
 ghost use Rattle.v6_chain.specs.Kinds.{kind_of};
 ghost use Rattle.frame_class.specs.declared.classes.Class.{Class};
-ghost use Rattle.frame_class.specs.Reading.{IsClassOf, IsPacketClass, IsUpperClass, IsNdOf, IsDhcpOf, IsForDhcp};
+ghost use Rattle.frame_class.specs.declared.classes.Seen.{Seen};
+ghost use Rattle.frame_class.specs.Reading.{IsClassOf, IsTypedClass, IsPacketClass, IsUpperClass, IsNdOf, IsDhcpOf, IsForDhcp};
+ghost use Rattle.frame_class.specs.Seen.{IsSeen};
 
-use crate::classes::{Class, Read};
+use crate::classes::{Class, Read, Seen};
 use byteorder::{BigEndian, ByteOrder};
 use dhcp6_read::{Dhcp, MESSAGE_LEN_MOST, dhcp};
-use eth_frame::Eth;
+use eth_frame::{CUSTOMER_TAG, Eth, SERVICE_TAG, TAGGED_OCTETS_LEAST, Tag, tag, untagged_header};
 use nd_read::{Nd, nd};
 use savi_kinds::{FRAME_OCTETS_LEAST, FRAME_OCTETS_MOST};
 use v6_chain::{Chain, HEADER_LEN, ICMPV6, Ip, UDP, chain, ip};
-
-/// The EtherType of a customer VLAN tag (IEEE 802.1Q).
-pub const CUSTOMER_TAG: u16 = 0x8100;
-
-/// The EtherType of a service VLAN tag (IEEE 802.1Q).
-pub const SERVICE_TAG: u16 = 0x88a8;
 
 /// The EtherType of IPv6 (RFC 2464 section 3).
 pub const IPV6_TYPE: u16 = 0x86dd;
@@ -42,8 +39,7 @@ const DHCP6_CLIENT_PORT: u16 = 546;
 /// The UDP port at which DHCPv6 servers and relays listen (RFC 8415 section 7.2).
 const DHCP6_SERVER_PORT: u16 = 547;
 
-/// What a frame is. Its octets, without the check sequence, are at most 1,518. O(n): the headers are gone through once, the
-/// octets of a message of neighbor discovery also for their checksum, and those of a message of DHCPv6 for its options.
+/// What a frame is, whatever tag it has. Its octets, without the check sequence, are at most 1,518. O(n), as `seen`.
 pub fn class(frame: &[u8]) -> Class
     requires { length frame.now ≤ FRAME_OCTETS_MOST }
     ensures reading { IsClassOf frame.now result }
@@ -54,8 +50,56 @@ pub fn class(frame: &[u8]) -> Class
     class
 }
 
-/// Puts what a frame is in the place of `class`. A class is large: so it is made where it stays, and not handed on from
-/// layer to layer.
+/// What is seen of a frame: its VLAN tag, and what its inner frame is. A frame of fewer than 14 octets has no tag. The
+/// octets, without the check sequence, are at most 1,518. O(n): the headers are gone through once, the octets of a message
+/// of neighbor discovery also for their checksum, and those of a message of DHCPv6 for its options. Behind a tag all is
+/// read where it stands.
+pub fn seen(frame: &[u8]) -> Seen
+    requires { length frame.now ≤ FRAME_OCTETS_MOST }
+    ensures reading { IsSeen frame.now result }
+    ensures only { (other : Seen) → IsSeen frame.now other → other ≡ result }
+{
+    let tag = tag_if_whole(frame);
+    let mut class = Class::Runt;
+    put_inner_class(frame, tag, &mut class);
+    Seen { tag, class }
+}
+
+/// The tag of a frame, which is none where the frame has fewer than 14 octets.
+fn tag_if_whole(frame: &[u8]) -> Tag
+    ensures { result ≡ tag_of frame.now }
+{
+    if frame.len() < FRAME_OCTETS_LEAST {
+        return Tag::None;
+    }
+    tag(frame)
+}
+
+/// Puts what the inner frame of a frame with this tag is.
+fn put_inner_class(frame: &[u8], tag: Tag, class: &mut Class)
+    requires most { length frame.now ≤ FRAME_OCTETS_MOST }
+    requires tag { tag ≡ tag_of frame.now }
+    ensures { IsClassOf (inner frame.now) class.new }
+{
+    match tag {
+        Tag::None => put_class(frame, class),
+        Tag::Vid(_) => put_untagged_class(frame, class),
+        Tag::Bad => put_class(frame, class),
+    }
+}
+
+/// Puts what a frame is without its tag: the EtherType behind the tag says what stands from octet 18 on.
+fn put_untagged_class(frame: &[u8], class: &mut Class)
+    requires whole { TAGGED_OCTETS_LEAST ≤ length frame.now }
+    requires most { length frame.now ≤ FRAME_OCTETS_MOST }
+    ensures { IsClassOf (without_tag frame.now) class.new }
+{
+    let eth = untagged_header(frame);
+    put_class_by(eth, &frame[TAGGED_OCTETS_LEAST..], class);
+}
+
+/// Puts what a frame is, whatever tag it has, in the place of `class`. A class is large: so it is made where it stays, and
+/// not handed on from layer to layer.
 fn put_class(frame: &[u8], class: &mut Class)
     requires { length frame.now ≤ FRAME_OCTETS_MOST }
     ensures { IsClassOf frame.now class.new }
@@ -64,9 +108,17 @@ fn put_class(frame: &[u8], class: &mut Class)
         *class = Class::Runt;
         return;
     };
+    put_class_by(eth, &frame[FRAME_OCTETS_LEAST..], class);
+}
+
+/// Puts what a frame is by its header and what stands behind it.
+fn put_class_by(eth: Eth, payload: &[u8], class: &mut Class)
+    requires { FRAME_OCTETS_LEAST + length payload.now ≤ FRAME_OCTETS_MOST }
+    ensures { IsTypedClass eth payload.now class.new }
+{
     match eth.kind {
         CUSTOMER_TAG | SERVICE_TAG => *class = Class::Tagged { eth },
-        IPV6_TYPE => put_packet(eth, &frame[FRAME_OCTETS_LEAST..], class),
+        IPV6_TYPE => put_packet(eth, payload, class),
         _ => *class = Class::Other { eth },
     }
 }

@@ -1,11 +1,11 @@
-//! Frames: their header, their class, and the rule that stops them.
+//! Frames: their header, their tag and their class, and the rule that stops them.
 
 use crate::messages::{print_dhcp, print_nd};
 use crate::octets::word_of;
 use crate::packets::print_header;
 use anyhow::bail;
-use eth_frame::{Eth, EthFault, read};
-use frame_class::{Class, Read, class};
+use eth_frame::{Eth, EthFault, Tag, read};
+use frame_class::{Class, Read, seen};
 use ra_guard::guard;
 use savi_kinds::{FRAME_OCTETS_MOST, Role, put_mac};
 use std::alloc::Global;
@@ -34,16 +34,21 @@ fn print_fields(rt: &impl Print, eth: Eth) -> anyhow::Result<()> {
     Ok(())
 }
 
-/// Prints the class of a frame.
+/// Prints the VLAN of a frame's tag, and the class of its inner frame.
 pub fn print_class(rt: &impl Print, alloc: Global, frame: &[u8]) -> anyhow::Result<()> {
     if frame.len() > FRAME_OCTETS_MOST {
         bail!("longer than a frame");
     }
-    let class = class(frame);
-    if let Some(eth) = class.eth() {
+    let seen = seen(frame);
+    match seen.tag {
+        Tag::None => {}
+        Tag::Vid(vid) => print!(rt; " VLAN {vid}")?,
+        Tag::Bad => print!(rt; " bad tag")?,
+    }
+    if let Some(eth) = seen.class.eth() {
         print_fields(rt, eth)?;
     }
-    match &class {
+    match &seen.class {
         Class::Runt => print!(rt; " runt")?,
         Class::Tagged { .. } => print!(rt; " tagged")?,
         Class::Other { .. } => print!(rt; " other")?,
@@ -92,7 +97,8 @@ fn print_read(rt: &impl Print, alloc: Global, read: &Read) -> anyhow::Result<()>
     Ok(())
 }
 
-/// Prints the rule that stops a frame: the role of its port, and whether a next header that isn't known is dropped.
+/// Prints the rule that stops a frame, by its inner frame: the role of its port, and whether a next header that isn't known
+/// is dropped.
 pub fn print_rule(rt: &impl Print, frame: &[u8], rest: &str) -> anyhow::Result<()> {
     if frame.len() > FRAME_OCTETS_MOST {
         bail!("longer than a frame");
@@ -104,7 +110,7 @@ pub fn print_rule(rt: &impl Print, frame: &[u8], rest: &str) -> anyhow::Result<(
         "trusted" => Role::Trusted,
         _ => bail!("no role: {role}"),
     };
-    match guard(role, unknown == "drop", &class(frame)) {
+    match guard(role, unknown == "drop", &seen(frame).class) {
         Some(rule) => println!(rt; " {rule:?}")?,
         None => println!(rt; " none")?,
     }

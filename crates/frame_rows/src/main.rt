@@ -14,8 +14,9 @@
 //! What each of these comes to is printed:
 //!
 //!     eth                       the header of a frame: destination, source and EtherType
-//!     class                     the class of a frame, with the fields of its headers
-//!     guard ROLE UNKNOWN        the rule that stops a frame at such a port, where unknown next headers are `drop` or `pass`
+//!     class                     the VLAN of a frame's tag, and the class of its inner frame, with the fields of its headers
+//!     guard ROLE UNKNOWN        the rule that stops an inner frame at such a port, where unknown next headers are `drop` or
+//!                               `pass`
 //!     ip                        the fixed header of a packet: source, destination, next header, hop limit and length
 //!     chain                     what its chain of headers comes to: the upper header, its place, whether it is a fragment
 //!     body NEXT                 the same of a packet with this next-header value, and the octets behind its fixed header

@@ -6,12 +6,14 @@ pub mod Words
 pub mod AddressWords
 pub mod FieldWords
 pub mod OnePort
-pub mod DecimalRead
 pub mod FieldsRead
 pub mod HeaderRead
 pub mod HexRead
 pub mod VerdictRead
 pub mod EndRead
 pub mod PortsRead
+pub mod Rising
+pub mod VlanLines
+pub mod HeaderSizes
 pub mod EntryRead
 pub mod OneEntry

@@ -1,5 +1,5 @@
 -- The members of a set of ports, as they are read one by one.
-use Rattle.std.proofs.Common.{ℕ, zero, suc, ◌≡◌, ◌≢◌, ◌+◌, ◌-◌, ◌^◌, ◌<◌, ◌≤◌, ◌==◌, ◌||◌, Bool, true, false, cond, List, [], ◌∷◌, ◌++◌, length, take, drop, map, filter, decimal, codes, Option, Some, None, IfSome, refl, sym, ap, ap₂, ◌∙◌, subst, arith, inl, inr, ◌⊎◌, ne_eqb, eq-eqb, length-append}
+use Rattle.std.proofs.Common.{ℕ, zero, suc, ◌≡◌, ◌≢◌, ◌+◌, ◌-◌, ◌^◌, ◌<◌, ◌≤◌, ◌==◌, ◌||◌, Bool, true, false, cond, List, [], ◌∷◌, ◌++◌, length, take, drop, map, filter, decimal, codes, Option, Some, None, IfSome, refl, sym, ap, ap₂, ◌∙◌, subst, arith, inl, inr, ◌⊎◌, ne_eqb, eq-eqb, length-append, take-append-drop}
 use Rattle.std.proofs.lemmas.Bool.{cases_eq, cases_lt}
 use Rattle.std.proofs.lemmas.Bool.Decides.{nat_tests}
 use Rattle.std.proofs.lemmas.List.{append-nil, take_at, drop_at}
@@ -106,7 +106,7 @@ abbrev pub tail_text : List ℕ → List ℕ
 tail_text [] = []
 tail_text (n ∷ ns) = comma ∷ text_of (n ∷ ns)
 
-text_first : (m : ℕ) (ms : List ℕ) → text_of (m ∷ ms) ≡ decimal m ++ tail_text ms
+pub text_first : (m : ℕ) (ms : List ℕ) → text_of (m ∷ ms) ≡ decimal m ++ tail_text ms
 text_first m [] = sym (append-nil (decimal m))
 text_first m (n ∷ ns) = refl
 
@@ -126,9 +126,9 @@ end_of_number (x ∷ t) ms is = let more = end_of_number t ms is.1 in rw (ne_eqb
 abbrev pub comma_place : List ℕ → ℕ
 comma_place text = position_or_len (λ c. c == 44) text
 
-cut : (text : List ℕ) (m : ℕ) (ms : List ℕ) → m ≤ 16 → text ≡ text_of (m ∷ ms) → (take (comma_place text) text ≡ decimal m) × (drop (comma_place text) text ≡ tail_text ms)
+pub cut : (text : List ℕ) (m : ℕ) (ms : List ℕ) → m < 2 ^ 64 → text ≡ text_of (m ∷ ms) → (take (comma_place text) text ≡ decimal m) × (drop (comma_place text) text ≡ tail_text ms)
 cut text m ms small is =
-    let numeral = (decimal_is_IsNumeral m (omega (arith, small))).0 in
+    let numeral = (decimal_is_IsNumeral m small).0 in
     let whole : text ≡ decimal m ++ tail_text ms = is ∙ text_first m ms in
     let place : comma_place text ≡ length (decimal m) = ap comma_place whole ∙ end_of_number (decimal m) ms (digits_without (decimal m) numeral.1) in (
       ap (λ (t : List ℕ). take (comma_place text) t) whole ∙ take_at (decimal m) (tail_text ms) (comma_place text) (sym place),
@@ -159,9 +159,23 @@ cut_of last before set text goes =
           let lower : last < one.place = omega arith in
           let upper : one.place ≤ 16 = omega arith in
           let none : (j : ℕ) → last < j → j < one.place → is_member set j ≡ false = λ j more less. one.none j (omega arith) (omega arith) in
-          let parts = cut text one.place (members_above one.place set) upper (goes.text_is ∙ ap text_of (above_next set last one.place lower upper none one.here)) in
+          let parts = cut text one.place (members_above one.place set) (omega (arith, upper)) (goes.text_is ∙ ap text_of (above_next set last one.place lower upper none one.here)) in
           record { port = one.place; low = lower; high = upper; none = none; here = one.here; front = parts.0; rest = parts.1 }
     ]
+
+-- what stands behind a number, and what comes of it
+
+pub behind_comma : (ns : List ℕ) (t : List ℕ) → t ≡ text_of ns → 0 < length ns → comma ∷ t ≡ tail_text ns
+behind_comma [] t is_t some = absurd (omega arith)
+behind_comma (n ∷ ns) t is_t some = ap (λ (u : List ℕ). comma ∷ u) is_t
+
+pub no_tail : (ns : List ℕ) → tail_text ns ≡ [] → ns ≡ []
+no_tail [] e = refl
+no_tail (n ∷ ns) e = cc
+
+pub some_tail : (ns : List ℕ) (t : List ℕ) → tail_text ns ≡ comma ∷ t → (t ≡ text_of ns) × (0 < length ns)
+some_tail [] t e = cc
+some_tail (n ∷ ns) t e = let same : text_of (n ∷ ns) ≡ t = cc in (sym same, omega arith)
 
 -- sets with the same members
 
@@ -228,10 +242,6 @@ module _ (set grown : PortSet) (last port : ℕ) (is : IsGrown set grown last po
         text_is = is_text ∙ ap (λ (t : List ℕ). decimal port ++ t) (comma_is ∙ behind_comma (members_above port whole) more goes.text_is goes.some) ∙ sym (text_first port (members_above port whole)) ∙ sym (ap text_of next);
         some = omega arith;
       }
-    where
-      behind_comma : (ns : List ℕ) (t : List ℕ) → t ≡ text_of ns → 0 < length ns → comma ∷ t ≡ tail_text ns
-      behind_comma [] t is_t some = absurd (omega arith)
-      behind_comma (n ∷ ns) t is_t some = ap (λ (u : List ℕ). comma ∷ u) is_t
 
   -- up to the new member the sets are the same
   same_to : (whole : PortSet) (text : List ℕ) → ListsMembersAbove last set whole text → ((j : ℕ) → last < j → j < port → is_member whole j ≡ false) → is_member whole port ≡ true → (n : ℕ) → 1 ≤ n → n ≤ port → is_member whole n ≡ is_member grown n
@@ -257,10 +267,6 @@ module _ (set grown : PortSet) (last port : ℕ) (is : IsGrown set grown last po
         | inl above ↦ grown_above j above high ∙ sym (none_above whole port left j above high)
         | inr below ↦ sym (same_to whole text goes none here j low below)
       ])
-    where
-      no_tail : (ns : List ℕ) → tail_text ns ≡ [] → ns ≡ []
-      no_tail [] e = refl
-      no_tail (n ∷ ns) e = cc
 
   -- where another comes
   pub went_on : (whole : PortSet) (text more : List ℕ) → ListsMembersAbove last set whole text → (one : IsCut last whole text) → one.port ≡ port → drop (comma_place text) text ≡ comma ∷ more → ListsMembersAbove port grown whole more
@@ -270,10 +276,6 @@ module _ (set grown : PortSet) (last port : ℕ) (is : IsGrown set grown last po
       let tail : tail_text (members_above port whole) ≡ comma ∷ more = ap (λ (p : ℕ). tail_text (members_above p whole)) (sym port_is) ∙ sym one.rest ∙ rest in
       let parts = some_tail (members_above port whole) more tail in
       record { same = same_to whole text goes none here; size = goes.size; text_is = parts.0; some = parts.1 }
-    where
-      some_tail : (ns : List ℕ) (t : List ℕ) → tail_text ns ≡ comma ∷ t → (t ≡ text_of ns) × (0 < length ns)
-      some_tail [] t e = cc
-      some_tail (n ∷ ns) t e = let same : text_of (n ∷ ns) ≡ t = cc in (sym same, omega arith)
 
 -- what stands behind a member is nothing, or begins with a comma
 pub tail_cases : (ns : List ℕ) → (tail_text ns ≡ []) ⊎ ((more : List ℕ) × (tail_text ns ≡ comma ∷ more))
@@ -348,7 +350,7 @@ finished set text goes =
 
 -- sets with the same text
 
-tail_same : (ms ns : List ℕ) → tail_text ms ≡ tail_text ns → text_of ms ≡ text_of ns
+pub tail_same : (ms ns : List ℕ) → tail_text ms ≡ tail_text ns → text_of ms ≡ text_of ns
 tail_same [] [] e = refl
 tail_same [] (n ∷ ns) e = cc
 tail_same (m ∷ ms) [] e = cc
@@ -365,7 +367,7 @@ above_cut last set =
           let lower : last < one.place = omega arith in
           let upper : one.place ≤ 16 = omega arith in
           let none : (j : ℕ) → last < j → j < one.place → is_member set j ≡ false = λ j more less. one.none j (omega arith) (omega arith) in
-          let parts = cut (text_of (members_above last set)) one.place (members_above one.place set) upper (ap text_of (above_next set last one.place lower upper none one.here)) in
+          let parts = cut (text_of (members_above last set)) one.place (members_above one.place set) (omega (arith, upper)) (ap text_of (above_next set last one.place lower upper none one.here)) in
           inr (record { port = one.place; low = lower; high = upper; none = none; here = one.here; front = parts.0; rest = parts.1 })
     ]
 
@@ -430,6 +432,11 @@ ports_by_text a b p q same =
                 sets_same a b p q (λ j low high. above_same 17 0 a b (omega arith) text j (omega arith) high)
           ]
     ]
+
+-- a text and its cut
+
+pub whole_text : (text front rest digits : List ℕ) (place : ℕ) → front ≡ take place text → rest ≡ drop place text → front ≡ digits → text ≡ digits ++ rest
+whole_text text front rest digits place a b is = sym (take-append-drop place text) ∙ ap (λ (t : List ℕ). t ++ drop place text) (sym a ∙ is) ∙ ap (λ (t : List ℕ). digits ++ t) (sym b)
 
 pub if_some : {A : Type 0} (o : Option A) (P Q : A → Type 0) → ((x : A) → P x → Q x) → IfSome o P → IfSome o Q
 if_some None P Q f is = tt

@@ -6,7 +6,7 @@ use Rattle.savi_kinds.specs.declared.plan.PortPlan.{PortPlan}
 use Rattle.savi_kinds.specs.declared.plan.PrefixPlan.{PrefixPlan}
 use Rattle.savi_kinds.specs.declared.plan.Role.{Role}
 use Rattle.savi_kinds.specs.declared.plan.Format.{Format}
-use Rattle.savi_kinds.specs.declared.plan.Method.{Method}
+use Rattle.savi_kinds.specs.declared.plan.Vlan.{Vlan}
 use Rattle.savi_kinds.specs.declared.port.Port.{Port}
 use Rattle.savi_kinds.specs.declared.address.Mac.{Mac}
 use Rattle.savi_kinds.specs.declared.address.Prefix.{Prefix}
@@ -18,6 +18,7 @@ use Rattle.hist_store.specs.declared.version.Version.TheVariants as versions
 use Rattle.hist_store.specs.Rows.{Row}
 use Rattle.hist_store.specs.TextOfLines.{lines_text}
 use Rattle.hist_store.specs.PortTexts.{port_text}
+use Rattle.hist_store.specs.VlanTexts.{port_vlan_fields, vlan_fields}
 use Rattle.hist_store.specs.LineTexts.{line_fields}
 
 -- The text of an address of 128 bits that is written (RFC 5952). What follows has the text of addresses as an argument:
@@ -29,19 +30,16 @@ address_text address = addr_text (record { 0 = address })
 abbrev pub prefix_text_by : (ℕ → List ℕ) → Prefix → List ℕ
 prefix_text_by text_of prefix = text_of prefix.net.0 ++ codes "/" ++ decimal prefix.len
 
--- the line of a port of this role and format
-abbrev pub journal_port_line : Port → Role → Format → List (List ℕ)
-journal_port_line port role format = codes "port" ∷ port_text port ∷ role_word role ∷ format_word format ∷ []
+-- the line of a port of this role and format, with its VLANs
+abbrev pub journal_port_line : Port → Role → Format → Vlan → List (List ℕ)
+journal_port_line port role format vlan = codes "port" ∷ port_text port ∷ role_word role ∷ format_word format ∷ port_vlan_fields vlan
 
 abbrev pub journal_port_fields : PortPlan → List (List ℕ)
-journal_port_fields port = journal_port_line port.number port.role port.format
+journal_port_fields port = journal_port_line port.number port.role port.format port.vlan
 
--- the line of a prefix whose addresses are validated by this method
-abbrev pub prefix_line : (ℕ → List ℕ) → Prefix → Method → List (List ℕ)
-prefix_line text_of prefix method = codes "prefix" ∷ prefix_text_by text_of prefix ∷ method_word method ∷ []
-
+-- the line of a prefix whose addresses are validated by a method, in a VLAN
 abbrev pub prefix_fields : (ℕ → List ℕ) → PrefixPlan → List (List ℕ)
-prefix_fields text_of plan = prefix_line text_of plan.prefix plan.method
+prefix_fields text_of plan = codes "prefix" ∷ prefix_text_by text_of plan.prefix ∷ method_word plan.method ∷ vlan_fields plan.vlan
 
 -- a setting's name and its number
 abbrev pub setting : List ℕ → ℕ → List (List ℕ)

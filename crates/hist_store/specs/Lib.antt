@@ -2,6 +2,7 @@ pub mod Rows
 pub mod StoredRows
 pub mod TextOfLines
 pub mod PortTexts
+pub mod VlanTexts
 pub mod VerdictTexts
 pub mod EndTexts
 pub mod LineTexts

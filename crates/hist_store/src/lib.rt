@@ -23,9 +23,11 @@ mod read_header;
 mod read_hex;
 mod read_ports;
 mod read_verdict;
+mod read_vlans;
 mod reading;
 mod verdict_fields;
 mod version;
+mod vlan_fields;
 
 pub use end_fields::{put_how, put_who};
 pub use header::{put_begin, put_end, put_header};

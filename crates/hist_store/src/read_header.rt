@@ -1,27 +1,35 @@
 //! The lines of a journal's header, and those around the entries of a segment, read one by one.
 //!
 //! Each reader takes exactly the lines that are printed, in their one spelling: whose value would be printed otherwise, as
-//! a MAC address in upper case, is none. The order of the lines is the caller's to keep, but for that of ports and prefixes.
+//! a MAC address in upper case, is none. The order of the lines is the caller's to keep, but for that of ports and prefixes;
+//! so is which of them a plan may have, as that a trunk is a trusted port.
 
-ghost use Rattle.std.specs.Prelude.{IsTrue, ◌↔◌, ◌≡◌, ◌^◌, ◌<◌, [], ◌∷◌, ◌++◌, ℕ, Bool, List, codes, decimal, Option, Some, IfSome, IsSomeAnd};
+ghost use Rattle.std.specs.Prelude.{IsTrue, ◌↔◌, ◌≡◌, ◌^◌, ◌<◌, ◌≤◌, [], ◌∷◌, ◌++◌, ℕ, Bool, List, codes, decimal, Option, Some, IfSome, IsSomeAnd};
 ghost use Rattle.savi_kinds.specs.declared.address.Mac.{Mac};
 ghost use Rattle.savi_kinds.specs.declared.address.Prefix.{Prefix};
 ghost use Rattle.savi_kinds.specs.declared.plan.Role.{Role};
 ghost use Rattle.savi_kinds.specs.declared.plan.Method.{Method};
 ghost use Rattle.savi_kinds.specs.declared.plan.Format.{Format};
+ghost use Rattle.savi_kinds.specs.declared.plan.PrefixPlan.{PrefixPlan};
+ghost use Rattle.savi_kinds.specs.declared.plan.Vlan.{Vlan};
 ghost use Rattle.savi_kinds.specs.declared.port.Port.{Port};
 ghost use Rattle.savi_kinds.specs.MacText.{HasSixOctets};
-ghost use Rattle.savi_kinds.specs.Prefixes.{IsPrefix, first_of};
+ghost use Rattle.savi_kinds.specs.Prefixes.{IsPrefix, first_of, past_of};
 ghost use Rattle.savi_kinds.specs.PlanWords.{role_word, method_word, format_word};
+ghost use Rattle.savi_kinds.specs.ValidPlan.{StandsBefore};
+ghost use Rattle.savi_kinds.specs.Vlans.{IsVlan};
 ghost use Rattle.hist_store.specs.declared.version.Version.{Version};
 ghost use Rattle.hist_store.specs.TextOfLines.{joined};
-ghost use Rattle.hist_store.specs.JournalTexts.{address_text, prefix_text_by, version_line, mac_line, savi_line, unknown_line, setting, journal_port_line, prefix_line, begin_line, journal_end_line};
+ghost use Rattle.hist_store.specs.JournalTexts.{address_text, prefix_text_by, version_line, mac_line, savi_line, unknown_line, setting, journal_port_line, prefix_fields, begin_line, journal_end_line};
+ghost use Rattle.hist_store.specs.VlanTexts.{AreVlans};
 ghost use Rattle.hist_store.specs.HeaderLines.{IsNextPort, IsNextPrefix};
 
 use crate::read_fields::{behind, is_word, read_number, take_field, take_port};
+use crate::read_vlans::{read_port_vlans, read_vlan};
 use crate::version::Version;
 use savi_kinds::{
-    Addr, Format, Mac, Method, Port, Prefix, Role, put_addr, put_mac, read_mac, read_prefix,
+    Addr, Format, Mac, Method, Port, Prefix, PrefixPlan, Role, Vlan, put_addr, put_mac, read_mac,
+    read_prefix,
 };
 
 /// Reads the first line of a journal: the version of its text. `None` exactly where the line isn't one. O(1).
@@ -90,44 +98,52 @@ pub fn read_setting(line: &[u8], name: &str) -> Option<u64>
     read_number(value_of(line, name)?)
 }
 
-/// Reads the line of a port behind that of the port before it, if there was one. `None` exactly where the line isn't one,
-/// or the port doesn't come behind. O(1).
-pub fn read_port_line(line: &[u8], last: Option<Port>) -> Option<(Port, Role, Format)>
-    ensures read { IfSome result (λ r. (line.now ≡ joined (journal_port_line r.0 r.1 r.2)) × IsNextPort last r.0) }
-    ensures whole { (port : Port) (role : Role) (format : Format) → IsNextPort last port
-        → line.now ≡ joined (journal_port_line port role format)
-        → IsSomeAnd result (λ r. (r.0 ≡ port) × (r.1 ≡ role) × (r.2 ≡ format)) }
+/// Reads the line of a port behind that of the port before it, if there was one: its number, role, format and VLANs, which are
+/// one, or from 1 to 8 of a trunk. `None` exactly where the line isn't one, or the port doesn't come behind. O(1).
+pub fn read_port_line(line: &[u8], last: Option<Port>) -> Option<(Port, Role, Format, Vlan)>
+    ensures read { IfSome result
+        (λ r. (line.now ≡ joined (journal_port_line r.0 r.1 r.2 r.3)) × AreVlans r.3 × IsNextPort last r.0) }
+    ensures whole { (port : Port) (role : Role) (format : Format) (vlan : Vlan) → AreVlans vlan → IsNextPort last port
+        → line.now ≡ joined (journal_port_line port role format vlan)
+        → IsSomeAnd result (λ r. (r.0 ≡ port) × (r.1 ≡ role) × (r.2 ≡ format) × (r.3 ≡ vlan)) }
 {
     let (port, rest) = take_port(behind(line, "port")?)?;
     let (role, rest) = take_field(rest)?;
     let role = read_role(role)?;
     let (format, rest) = take_field(rest)?;
     let format = read_format(format)?;
-    if rest.is_empty() && is_next_port(last, port) {
-        Some((port, role, format))
+    let vlan = read_port_vlans(rest)?;
+    if is_next_port(last, port) {
+        Some((port, role, format, vlan))
     } else {
         None
     }
 }
 
 /// Reads the line of a prefix behind that of the prefix before it, if there was one. `None` exactly where the line isn't
-/// one, or the prefix doesn't begin behind the end of the one before it. The one before it has a length from 1 to 128, and
-/// no bit set past it. O(1).
-pub fn read_prefix_line(line: &[u8], last: Option<Prefix>) -> Option<(Prefix, Method)>
-    requires { IfSome last IsPrefix }
+/// one, or the prefix doesn't come behind: in a higher VLAN, or in the same one behind the end of the one before it. The one
+/// before it has a length from 1 to 128, and no bit set past it. O(1).
+pub fn read_prefix_line(line: &[u8], last: Option<PrefixPlan>) -> Option<PrefixPlan>
+    requires { IfSome last (λ plan. IsPrefix plan.prefix) }
     ensures read { IfSome result
-        (λ r. (line.now ≡ joined (prefix_line address_text r.0 r.1)) × IsPrefix r.0 × IsNextPrefix last r.0) }
-    ensures whole { (prefix : Prefix) (method : Method) → first_of prefix < 2 ^ 128
-        → IsPrefix prefix → IsNextPrefix last prefix
-        → line.now ≡ joined (prefix_line address_text prefix method)
-        → IsSomeAnd result (λ r. (r.0 ≡ prefix) × (r.1 ≡ method)) }
+        (λ plan. (line.now ≡ joined (prefix_fields address_text plan)) × IsPrefix plan.prefix × IsVlan plan.vlan × IsNextPrefix last plan) }
+    ensures whole { (plan : PrefixPlan) → first_of plan.prefix < 2 ^ 128
+        → IsPrefix plan.prefix → IsVlan plan.vlan → IsNextPrefix last plan
+        → line.now ≡ joined (prefix_fields address_text plan)
+        → result ≡ Some plan }
 {
     let (prefix, rest) = take_field(behind(line, "prefix")?)?;
     let prefix = read_written_prefix(prefix)?;
     let (method, rest) = take_field(rest)?;
     let method = read_method(method)?;
-    if rest.is_empty() && is_next_prefix(last, prefix) {
-        Some((prefix, method))
+    let vlan = read_vlan(rest)?;
+    let plan = PrefixPlan {
+        prefix,
+        method,
+        vlan,
+    };
+    if is_next_prefix(last, plan) {
+        Some(plan)
     } else {
         None
     }
@@ -226,15 +242,31 @@ fn read_method(word: &[u8]) -> Option<Method>
     None
 }
 
-fn is_next_prefix(last: Option<Prefix>, prefix: Prefix) -> bool
-    requires { IfSome last IsPrefix }
-    ensures { IsTrue result ↔ IsNextPrefix last prefix }
+fn is_next_prefix(last: Option<PrefixPlan>, next: PrefixPlan) -> bool
+    requires { IfSome last (λ plan. IsPrefix plan.prefix) }
+    ensures { IsTrue result ↔ IsNextPrefix last next }
 {
     match last {
         None => true,
-        Some(last) => match last.net.0.checked_add(1 << (128 - last.len)) {
-            Some(past) => past <= prefix.net.0,
-            None => false,
-        },
+        Some(last) => stands_before(last, next),
+    }
+}
+
+// Whether a prefix is of a lower VLAN than another one, or of the same and ends before that begins.
+fn stands_before(one: PrefixPlan, other: PrefixPlan) -> bool
+    requires { IsPrefix one.prefix }
+    ensures { IsTrue result ↔ StandsBefore one other }
+{
+    one.vlan < other.vlan || (one.vlan == other.vlan && ends_before(one.prefix, other.prefix))
+}
+
+// Whether a prefix ends before another one begins.
+fn ends_before(one: Prefix, other: Prefix) -> bool
+    requires { IsPrefix one }
+    ensures { IsTrue result ↔ (past_of one ≤ first_of other) }
+{
+    match one.net.0.checked_add(1 << (128 - one.len)) {
+        Some(past) => past <= other.net.0,
+        None => false,
     }
 }

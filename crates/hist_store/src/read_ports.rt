@@ -57,7 +57,7 @@ fn know_ports(set: PortSet)
 {}
 
 // What stands in front of the first comma, and the rest.
-fn cut_member(text: &[u8]) -> (&[u8], &[u8])
+pub(crate) fn cut_member(text: &[u8]) -> (&[u8], &[u8])
     ensures front { result.0.now ≡ take (position_or_len (λ c. c == comma) text.now) text.now }
     ensures rest { result.1.now ≡ drop (position_or_len (λ c. c == comma) text.now) text.now }
 {

@@ -29,8 +29,9 @@ use Rattle.control_replies.specs.Counters.{all_rules, dropped_count, other_lines
 use Rattle.checkpoint.specs.Bases.{Base}
 use Rattle.checkpoint.specs.Columns.{by_vlan}
 use Rattle.checkpoint.specs.Orders.{requests_in_order}
-use Rattle.checkpoint.specs.StateLines.{binding_base_lines, claim_base_lines, fixed_lines, key_text, state_base_lines, two_text}
-use Rattle.checkpoint.specs.BaseLines.{base_lines, base_texts, column_lines, count_lines, ended_line, head_lines, passes_of, pass_text, request_line, station_base_line, vlans_of}
+use Rattle.checkpoint.specs.StateLines.{binding_base_lines, claim_base_lines, fixed_lines, text_in_vlan, state_base_lines, two_text}
+use Rattle.savi_kinds.specs.Vlans.{vlans_of}
+use Rattle.checkpoint.specs.BaseLines.{base_lines, base_texts, column_lines, count_lines, ended_line, head_lines, passes_of, pass_text, request_line, station_base_line}
 use Rattle.savi_history.proofs.Fields.{word_either, word_mac}
 use Rattle.journal_check.specs.Feeds.{HasNoFeed}
 use Rattle.journal_check.specs.Headers.{LineFields}
@@ -82,10 +83,10 @@ lines_of_all f plain (x ∷ xs) = lines_joined (f x) (flat_map f xs) (plain x) (
 
 -- texts of addresses and octets
 
-key_plain : (text : List ℕ) (vlan : ℕ) → IsWord text → HasNoFeed (key_text text vlan)
+key_plain : (text : List ℕ) (vlan : ℕ) → IsWord text → HasNoFeed (text_in_vlan text vlan)
 key_plain text vlan is =
     let behind : IsWord (text ++ codes "@" ++ decimal vlan) = word_append (text ++ codes "@") (decimal vlan) (word_append text (codes "@") is (word_of (codes "@") refl)) (word_decimal vlan) in
-    word_plain (key_text text vlan) (word_either (vlan == 1) text (text ++ codes "@" ++ decimal vlan) is behind)
+    word_plain (text_in_vlan text vlan) (word_either (vlan == 1) text (text ++ codes "@" ++ decimal vlan) is behind)
 
 -- whatever octets are, no digit of theirs is a line feed
 
@@ -180,7 +181,7 @@ claim_plain key (TestVp p q since two) plain =
 
 state_plain : (p : ℕ × Row) → AllPlain (state_base_lines p)
 state_plain p =
-    let key = key_text (addr_text p.1.address) p.0 in
+    let key = text_in_vlan (addr_text p.1.address) p.0 in
     let plain : HasNoFeed key = key_plain (addr_text p.1.address) p.0 (word_all (addr_text p.1.address) (address_graphic p.1.address.0)) in
     lines_joined (fixed_lines key p.1.state.fixed ++ binding_base_lines key p.1.state.dhcp) (claim_base_lines key p.1.state.fcfs)
     (lines_joined (fixed_lines key p.1.state.fixed) (binding_base_lines key p.1.state.dhcp) (fixed_plain key p.1.state.fixed plain) (bound_plain key p.1.state.dhcp plain))

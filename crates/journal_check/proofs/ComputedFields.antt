@@ -1,5 +1,5 @@
 -- What is computed of an event in a legal history fits its field of a line.
-use Rattle.std.proofs.Common.{◌≡◌, ℕ, ◌-◌, ◌*◌, ◌^◌, ◌<◌, ◌≤◌, if◌then◌else◌, Bool, true, false, List, [], ◌∷◌, length, arith, length-append}
+use Rattle.std.proofs.Common.{◌≡◌, ℕ, ◌-◌, ◌*◌, ◌^◌, ◌<◌, ◌≤◌, if◌then◌else◌, Bool, true, false, List, [], ◌∷◌, length, map, arith, length-append}
 use Rattle.std.specs.List.{filter}
 use Rattle.std.proofs.lemmas.Nat.{or_of_16, pow_below}
 use Rattle.std.proofs.lemmas.List.{length-map}
@@ -12,6 +12,7 @@ use Rattle.savi_kinds.specs.declared.entry.Who.{Who}
 use Rattle.savi_kinds.specs.Ports.{number_of}
 use Rattle.savi_kinds.specs.PortSets.{set_of}
 use Rattle.savi_kinds.specs.ValidPlan.{IsValidPlan, numbers_of}
+use Rattle.savi_kinds.specs.Vlans.{vlans_of}
 use Rattle.savi_access.proofs.RowCounts.{few_rows}
 use Rattle.savi_access.specs.Marks.{told}
 use Rattle.savi_access.specs.Plans.{rules_of}
@@ -21,10 +22,11 @@ use Rattle.savi_history.specs.Accesses.{IsTold}
 use Rattle.checkpoint.specs.Bases.{Base, access_of}
 use Rattle.savi_history.specs.Passes.{has_pass, pass_of}
 use Rattle.savi_history.specs.Moments.{last_moment, moment_at}
-use Rattle.savi_history.specs.Vlans.{the_vlan}
+use Rattle.savi_history.specs.Vlans.{vlan_of_frame}
+use Rattle.savi_history.specs.Merges.{merged}
 use Rattle.savi_history.specs.Marks.{marks}
 use Rattle.savi_history.specs.Judged.{judged_of}
-use Rattle.savi_history.specs.Offers.{Offer, offer_of, offers, due_by, in_answer, probes_of}
+use Rattle.savi_history.specs.Offers.{Offer, offer_of, offers, due_by, due_in, in_answer}
 use Rattle.savi_history.specs.Queues.{is_probed, probe_item, room_at, queue, offered_at, queued_at, lost_at, over_ports, probes, lost}
 use Rattle.savi_history.specs.Limits.{IsWithinLimits}
 use Rattle.savi_history.specs.Legal.{IsLegal}
@@ -32,6 +34,7 @@ use Rattle.savi_history.proofs.Depth.{queue_within}
 use Rattle.savi_history.proofs.Joining.{joined_within, room_low}
 use Rattle.savi_history.proofs.Telling.{AreOctets, told_rightly}
 use Rattle.savi_core.proofs.Places.{length-numbers, pass_within}
+use Rattle.savi_segments.proofs.MergedLengths.{merged_length}
 use Rattle.savi_core.proofs.Telling.{few_between, one_answer}
 
 -- the number of a pass
@@ -49,11 +52,11 @@ pub set_fits : (test : ℕ → Bool) (ports : List PortPlan) → (set_of (filter
 set_fits test [] = omega arith
 set_fits test (p ∷ ports) = set_more (test (number_of p.number)) (number_of p.number) (filter test (numbers_of ports)) p.number.high (set_fits test ports)
 
--- the probes that fall due
+-- the probes that fall due, in each VLAN at most three for each address
 
 module _ (plan : Plan) (valid : IsValidPlan plan) (base : Base) (within : IsWithinLimits plan base) (past : List Row) (legal : IsLegal plan base past) (octets_are : AreOctets past) where
-  few_due : (moment : ℕ) → last_moment base past ≤ moment → length (due_by plan base past moment) ≤ 3072
-  few_due moment later =
+  few_in : (moment : ℕ) → last_moment base past ≤ moment → (vlan : ℕ) → length (due_in plan base past moment vlan) ≤ 3072
+  few_in moment later vlan =
       let r = rules_of plan in
       let access = access_of base in
       let all = marks plan base past in
@@ -61,25 +64,37 @@ module _ (plan : Plan) (valid : IsValidPlan plan) (base : Base) (within : IsWith
       let told_is : IsTold plan base past = told_rightly plan valid base within past legal octets_are in
       omega (
         arith,
-        few_between r.addresses access.addresses (told all) from moment the_vlan within.access.addresses later,
-        few_rows r.addresses access.addresses (told all) from the_vlan within.access.addresses (told_past r access all told_is.right) (told_before r access all from told_is.right told_is.last),
+        few_between r.addresses access.addresses (told all) from moment vlan within.access.addresses later,
+        few_rows r.addresses access.addresses (told all) from vlan within.access.addresses (told_past r access all told_is.right) (told_before r access all from told_is.right told_is.last),
         valid.per_port.1,
       )
 
-  few_probes : (act : Act) (octets : List ℕ) → length (probes_of plan base past act octets) ≤ 3073
-  few_probes (acts.Frame port stamp at len) octets =
-      let due : length (due_by plan base past (moment_at base past stamp)) ≤ 3072 = few_due (moment_at base past stamp) (omega arith) in
-      let answer = (judged_of plan base past port stamp octets).probe in
-      omega (arith, due, one_answer answer, length-append (due_by plan base past (moment_at base past stamp)) (in_answer answer))
-  few_probes (acts.Long port stamp len) octets = omega (arith, few_due (moment_at base past stamp) (omega arith))
-  few_probes (acts.Tick stamp) octets = omega (arith, few_due (moment_at base past stamp) (omega arith))
-  few_probes (acts.Command stamp at len) octets = omega (arith, few_due (moment_at base past stamp) (omega arith))
-  few_probes (acts.Drain port count) octets = omega arith
-  few_probes (acts.End who how) octets = omega arith
+  abbrev offers_in : ℕ → ℕ → List Offer
+  offers_in moment vlan = map (offer_of vlan) (due_in plan base past moment vlan)
 
-  few_offers : (act : Act) (octets : List ℕ) → length (offers plan base past act octets) ≤ 3073
+  few_all : (moment : ℕ) → last_moment base past ≤ moment → (vlans : List ℕ) → length (merged (λ (offer : Offer). offer.due) (map (offers_in moment) vlans)) ≤ 3072 * length vlans
+  few_all moment later [] = omega arith
+  few_all moment later (vlan ∷ vlans) =
+      let due : Offer → ℕ = λ offer. offer.due in
+      let first = offers_in moment vlan in
+      let rest = merged due (map (offers_in moment) vlans) in
+      omega (arith, merged_length due first rest, length-map (due_in plan base past moment vlan) (offer_of vlan), few_in moment later vlan, few_all moment later vlans)
+
+  few_due : (moment : ℕ) → last_moment base past ≤ moment → length (due_by plan base past moment) ≤ 24576
+  few_due moment later = omega (arith, few_all moment later (vlans_of plan), valid.vlan_count)
+
+  few_offers : (act : Act) (octets : List ℕ) → length (offers plan base past act octets) ≤ 24577
   unfolding offers
-  few_offers act octets = omega (arith, length-map (probes_of plan base past act octets) offer_of, few_probes act octets)
+  few_offers (acts.Frame port stamp at len) octets =
+      let moment = moment_at base past stamp in
+      let due : length (due_by plan base past moment) ≤ 24576 = few_due moment (omega arith) in
+      let answer = in_answer (vlan_of_frame plan (number_of port) octets) (judged_of plan base past port stamp octets).probe in
+      omega (arith, due, one_answer (vlan_of_frame plan (number_of port) octets) (judged_of plan base past port stamp octets).probe, length-append (due_by plan base past moment) answer)
+  few_offers (acts.Long port stamp len) octets = omega (arith, few_due (moment_at base past stamp) (omega arith))
+  few_offers (acts.Tick stamp) octets = omega (arith, few_due (moment_at base past stamp) (omega arith))
+  few_offers (acts.Command stamp at len) octets = omega (arith, few_due (moment_at base past stamp) (omega arith))
+  few_offers (acts.Drain port count) octets = omega arith
+  few_offers (acts.End who how) octets = omega arith
 
   -- no port takes more than the plan's depth, and none is offered more than there is
 
@@ -93,13 +108,13 @@ module _ (plan : Plan) (valid : IsValidPlan plan) (base : Base) (within : IsWith
         joined_within (room_at plan base past n) plan.depth (queue plan base n past) (offered_at plan base past act octets n) (room_low plan base past n) (queue_within plan base n past),
       )
 
-  few_offered : (act : Act) (octets : List ℕ) (n : ℕ) → length (offered_at plan base past act octets n) ≤ 3073
+  few_offered : (act : Act) (octets : List ℕ) (n : ℕ) → length (offered_at plan base past act octets n) ≤ 24577
   few_offered act octets n =
-      let is_for_it : Offer → Bool = λ offer. is_probed plan base past n offer.probe in
+      let is_for_it : Offer → Bool = is_probed plan base past n in
       let all = offers plan base past act octets in
-      omega (arith, length-map (filter is_for_it all) (probe_item plan), length-filter is_for_it all, count_by-le-length is_for_it all, few_offers act octets)
+      omega (arith, length-map (filter is_for_it all) (probe_item plan n), length-filter is_for_it all, count_by-le-length is_for_it all, few_offers act octets)
 
-  lost_few : (act : Act) (octets : List ℕ) (ns : List ℕ) → over_ports ns (lost_at plan base past act octets) ≤ 3073 * length ns
+  lost_few : (act : Act) (octets : List ℕ) (ns : List ℕ) → over_ports ns (lost_at plan base past act octets) ≤ 24577 * length ns
   lost_few act octets [] = omega arith
   lost_few act octets (n ∷ ns) = omega (arith, lost_few act octets ns, few_offered act octets n)
 

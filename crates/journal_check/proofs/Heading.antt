@@ -1,14 +1,16 @@
 -- The header, line by line.
-use Rattle.std.proofs.Common.{◌≡◌, ◌≢◌, ◌+◌, ◌<◌, ℕ, zero, suc, List, [], ◌∷◌, ◌++◌, length, map, take, Option, Some, None, IfSome, refl, ap, sym, ◌∙◌, subst, arith, lit≤, lit<, append_assoc, length-append, length-take-le}
+use Rattle.std.proofs.Common.{◌≡◌, ◌≢◌, ◌+◌, ◌<◌, ℕ, zero, suc, List, [], ◌∷◌, ◌++◌, length, map, take, Option, Some, None, IfSome, refl, ap, sym, ◌∙◌, subst, arith, lit≤, lit<, true≢false, append_assoc, length-append, length-take-le}
 use Rattle.std.proofs.lemmas.List.{length-map}
-use Rattle.std.proofs.lemmas.List.Elements.{All-nil}
+use Rattle.std.proofs.lemmas.List.Elements.{All-nil, All-push}
 use Rattle.savi_kinds.specs.declared.plan.PortPlan.{PortPlan}
 use Rattle.savi_kinds.specs.declared.plan.PrefixPlan.{PrefixPlan}
 use Rattle.savi_kinds.specs.declared.plan.Role.TheVariants.{Host}
 use Rattle.savi_kinds.specs.declared.plan.Format.TheVariants.{Pcap}
+use Rattle.savi_kinds.specs.declared.plan.Vlan.TheVariants.{Access}
 use Rattle.savi_kinds.specs.declared.address.Prefix.{Prefix}
 use Rattle.savi_kinds.specs.Prefixes.{first_of}
-use Rattle.savi_kinds.specs.ValidPlan.{IsPlanPrefix}
+use Rattle.savi_kinds.specs.ValidPlan.{HasPlanVlans, IsPlanPrefix}
+use Rattle.savi_kinds.specs.Vlans.{IsVlan}
 use Rattle.hist_store.specs.TextOfLines.{joined, lines_text}
 use Rattle.hist_store.specs.JournalTexts.{address_text, journal_port_fields, prefix_fields, begin_line}
 use Rattle.hist_store.proofs.LineLemmas.{lines_text-append}
@@ -62,8 +64,11 @@ plan_is s ports prefixes a l some = record {
     life = a.life;
     port_count = (omega (arith, some), l.port_count);
     ports = l.ports_rise;
+    port_vlans = l.port_vlans;
+    vlan_count = l.vlan_count;
     prefix_count = l.prefix_count;
     plan_prefixes = l.plan_prefixes;
+    prefix_vlans = l.prefix_vlans;
     prefixes = l.prefixes_part;
   };
   mac = a.six;
@@ -75,16 +80,27 @@ header_by : (s : Settings) (ports : List PortPlan) (prefixes : List PrefixPlan) 
 header_by s ports prefixes = refl
 
 abbrev the_first : PortPlan
-the_first = port_by (the_port 1 (lit≤ tt) (lit≤ tt)) Host Pcap
+the_first = port_by (the_port 1 (lit≤ tt) (lit≤ tt)) Host Pcap (Access 1)
+
+first_vlans : HasPlanVlans the_first
+first_vlans = record {
+  numbers = All-push IsVlan [] 1 (All-nil IsVlan) (lit≤ tt, lit≤ tt);
+  some = lit≤ tt;
+  rising = λ k within. absurd (omega (arith, within));
+  trusted = λ trunk. absurd (true≢false (sym trunk));
+}
 
 first_listed : AreLists (the_first ∷ []) []
 first_listed = record {
   port_count = lit≤ tt;
   ports_rise = λ k within. absurd (omega (arith, within));
+  port_vlans = All-push HasPlanVlans [] the_first (All-nil HasPlanVlans) first_vlans;
+  vlan_count = lit≤ tt;
   nameless = refl;
   prefix_count = lit≤ tt;
   behind_port = λ some. lit< tt;
   plan_prefixes = All-nil IsPlanPrefix;
+  prefix_vlans = All-nil (λ (p : PrefixPlan). IsVlan p.vlan);
   prefixes_part = λ i j d less within. absurd (omega (arith, within));
   addresses = All-nil (λ (net : Prefix). IsAddress (first_of net));
 }

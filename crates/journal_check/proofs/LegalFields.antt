@@ -1,5 +1,5 @@
 -- Each number of a legal history fits its field of the journal.
-use Rattle.std.proofs.Common.{◌^◌, ◌<◌, ◌≤◌, ◌&&◌, Some, List, [], ◌∷◌, length, refl, sym, subst, arith}
+use Rattle.std.proofs.Common.{ℕ, ◌^◌, ◌<◌, ◌≤◌, ◌&&◌, Option, Some, None, List, [], ◌∷◌, length, refl, sym, subst, arith}
 use Rattle.std.specs.Prelude.{reverse}
 use Rattle.std.proofs.lemmas.List.{reverse-append}
 use Rattle.std.proofs.lemmas.List.Elements.{All-head, All-tail, All-pop}
@@ -10,6 +10,7 @@ use Rattle.savi_kinds.specs.declared.entry.Who.TheVariants as passes
 use Rattle.savi_kinds.specs.declared.entry.How.{How}
 use Rattle.savi_kinds.specs.declared.entry.How.TheVariants as hows
 use Rattle.savi_kinds.specs.declared.entry.Act.TheVariants as acts
+use Rattle.savi_kinds.specs.declared.verdict.Verdict.{Verdict}
 use Rattle.savi_kinds.specs.Ports.{number_of}
 use Rattle.savi_kinds.specs.PortSets.{is_member}
 use Rattle.savi_kinds.specs.ValidPlan.{IsValidPlan}
@@ -18,9 +19,12 @@ use Rattle.hist_store.specs.LineTexts.{FitsLine}
 use Rattle.hist_store.specs.EntryLines.{IsHowInRange, IsInRange, entry_said}
 use Rattle.hist_store.proofs.OneEntry.{written_says}
 use Rattle.checkpoint.specs.Bases.{Base}
-use Rattle.savi_history.specs.Moments.{last_moment}
+use Rattle.savi_history.specs.Moments.{last_moment, moment_at}
+use Rattle.savi_history.specs.Outs.{outs}
 use Rattle.savi_history.specs.Queues.{is_closed}
+use Rattle.savi_history.specs.Vlans.{vlan_of_frame}
 use Rattle.savi_history.specs.Events.{Event, Frame, Long, Command, Tick, Drain, End, row_of, outs_of, frame_act, command_act}
+use Rattle.savi_history.specs.Judged.{verdict_of}
 use Rattle.savi_history.specs.Limits.{IsWithinLimits}
 use Rattle.savi_history.specs.Legal.{MayCome, MayEnd, Stands, IsLegal}
 use Rattle.savi_history.proofs.Depth.{queue_within}
@@ -29,6 +33,11 @@ use Rattle.savi_history.proofs.Telling.{AreOctets, early}
 use Rattle.journal_check.specs.Laws.{AreSaid}
 use Rattle.journal_check.proofs.FewEntries.{few_entries}
 use Rattle.journal_check.proofs.ComputedFields.{pass_fits, set_fits, probes_fit, lost_fits}
+
+-- the ports of a frame, which are none where it has no VLAN
+outs_fit : (vlan : Option ℕ) (plan : Plan) (base : Base) (past : List Row) (port moment : ℕ) (octets : List ℕ) (verdict : Verdict) → (outs vlan plan base past port moment octets verdict).0 < 2 ^ 16
+outs_fit (Some vlan) plan base past port moment octets verdict = set_fits _ plan.ports
+outs_fit None plan base past port moment octets verdict = omega arith
 
 -- the number of a reason
 
@@ -65,7 +74,7 @@ module _ (plan : Plan) (valid : IsValidPlan plan) (base : Base) (within : IsWith
         by = pass_fits plan (passes.Ingress port) valid may.0.open_pass.known;
         moment = moment_fits (Frame port stamp octets) may;
         act = (may.0.fits, refl);
-        outs = set_fits _ plan.ports;
+        outs = outs_fit (vlan_of_frame plan (number_of port) octets) plan base past (number_of port) (moment_at base past stamp) octets (verdict_of plan base past port stamp octets);
         cuts = set_fits (λ q. is_member out q && is_closed plan base past act octets q) plan.ports;
         probes = probes_fit plan valid base within past legal octets_are act octets;
         lost = lost_fits plan valid base within past legal octets_are act octets;

@@ -28,6 +28,7 @@ pub mod OpenPasses
 pub mod RangeLemmas
 pub mod Judging
 pub mod SettingsRead
+pub mod FewVlans
 pub mod ListsRead
 pub mod LastListed
 pub mod NextListed

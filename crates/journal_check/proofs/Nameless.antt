@@ -1,7 +1,8 @@
 -- The segments of a session of a plan are those of the plan without its names, with the same journal.
-use Rattle.std.proofs.Common.{◌≡◌, ◌+◌, ◌*◌, ◌==◌, ◌≤◌, ℕ, List, [], ◌∷◌, ◌++◌, length, map, reverse, refl, ap, ap₂, sym, ◌∙◌, subst, inl, inr}
+use Rattle.std.proofs.Common.{◌≡◌, ◌+◌, ◌*◌, ◌==◌, ◌≤◌, ℕ, List, [], ◌∷◌, ◌++◌, All, length, map, reverse, refl, ap, ap₂, sym, ◌∙◌, subst, inl, inr}
 use Rattle.std.specs.List.{list_any}
 use Rattle.std.specs.List.Sorted.{IsStrictlyIncreasing}
+use Rattle.std.proofs.lemmas.List.Elements.{All-cons, All-head, All-nil, All-tail}
 use Rattle.savi_kinds.specs.declared.plan.Plan.{Plan}
 use Rattle.savi_kinds.specs.declared.plan.PortPlan.{PortPlan}
 use Rattle.savi_kinds.specs.declared.port.Port.{Port}
@@ -10,7 +11,7 @@ use Rattle.savi_kinds.specs.declared.entry.Who.TheVariants.{Ingress, Control, Ti
 use Rattle.savi_kinds.specs.declared.entry.How.{How}
 use Rattle.savi_kinds.specs.declared.entry.How.TheVariants as hows
 use Rattle.savi_kinds.specs.Ports.{number_of}
-use Rattle.savi_kinds.specs.ValidPlan.{IsValidPlan, IsWithin}
+use Rattle.savi_kinds.specs.ValidPlan.{HasPlanVlans, IsValidPlan, IsWithin}
 use Rattle.hist_store.specs.Rows.{Row}
 use Rattle.hist_store.specs.TextOfLines.{lines_text}
 use Rattle.hist_store.specs.declared.version.Version.{Version}
@@ -22,7 +23,6 @@ use Rattle.savi_access.specs.Marks.{Mark, told}
 use Rattle.savi_access.specs.Plans.{rules_of}
 use Rattle.checkpoint.specs.Bases.{Base, access_of}
 use Rattle.checkpoint.specs.BaseLines.{base_lines}
-use Rattle.savi_history.specs.Vlans.{the_vlan}
 use Rattle.savi_history.specs.Passes.{has_pass, pass_of, has_ended, AllEnded}
 use Rattle.savi_history.specs.Moments.{last_moment, moment_at}
 use Rattle.savi_history.specs.Marks.{marks}
@@ -34,7 +34,7 @@ use Rattle.savi_segments.specs.Checkpoints.{after}
 use Rattle.savi_segments.specs.Segments.{AreLegal, HasClosed, HasTurned, HaveTurned, IsWholeSession, base_after, joined as all_rows}
 use Rattle.savi_segments.specs.Journals.{journal_segments}
 use Rattle.savi_segments.proofs.SameNames.{after_same, base_lines_same}
-use Rattle.savi_history.proofs.WithoutNames.{numbers_kept, count_kept, rules_kept, marks_kept, queue_kept, row_kept}
+use Rattle.savi_history.proofs.WithoutNames.{numbers_kept, count_kept, rules_kept, marks_kept, queue_kept, row_kept, vlans_kept}
 use Rattle.journal_check.specs.Headers.{LineFields}
 use Rattle.journal_check.specs.Laws.{JournalsLackNames, WrittenIsGood}
 use Rattle.journal_check.proofs.GoodJournals.{journal_is_good}
@@ -75,8 +75,11 @@ module _ (plan : Plan) (base : Base) (past : List Row) where
         open_pass = open_kept Ticker may.open_pass;
         room = may.room;
         fits = may.fits;
-        changed = subst (λ (r : AccessRules). HasChanged r.addresses addresses (told (marks bare base past)) at moment the_vlan) (sym (rules_kept plan))
-            (subst (λ (all : List Mark). HasChanged (rules_of plan).addresses addresses (told all) at moment the_vlan) (sym (marks_kept plan base past)) may.changed);
+        changed = (
+          may.changed.0,
+          subst (λ (r : AccessRules). HasChanged r.addresses addresses (told (marks bare base past)) at moment may.changed.0) (sym (rules_kept plan))
+              (subst (λ (all : List Mark). HasChanged (rules_of plan).addresses addresses (told all) at moment may.changed.0) (sym (marks_kept plan base past)) may.changed.1),
+        );
       }
 
   inputs_kept : InputsEnded plan base past → InputsEnded bare base past
@@ -143,6 +146,14 @@ finished_kept plan base past finished = subst (λ (n : ℕ). AllEnded base (2 * 
 
 -- what the header says
 
+has_kept : (ports : List PortPlan) → All HasPlanVlans ports → All HasPlanVlans (map without_port_names ports)
+has_kept [] has = All-nil HasPlanVlans
+has_kept (p ∷ ports) has =
+    let first = All-head HasPlanVlans p ports has in
+    All-cons HasPlanVlans (without_port_names p) (map without_port_names ports)
+    (record { numbers = first.numbers; some = first.some; rising = first.rising; trusted = first.trusted })
+    (has_kept ports (All-tail HasPlanVlans p ports has))
+
 valid_kept : (plan : Plan) → IsValidPlan plan → IsValidPlan (without_names plan)
 valid_kept plan valid = record {
   unicast = valid.unicast;
@@ -156,8 +167,11 @@ valid_kept plan valid = record {
   life = valid.life;
   port_count = subst (IsWithin 1 16) (sym (count_kept plan.ports)) valid.port_count;
   ports = subst IsStrictlyIncreasing (sym (numbers_kept plan.ports)) valid.ports;
+  port_vlans = has_kept plan.ports valid.port_vlans;
+  vlan_count = subst (λ (vlans : List ℕ). length vlans ≤ 8) (sym (vlans_kept plan)) valid.vlan_count;
   prefix_count = valid.prefix_count;
   plan_prefixes = valid.plan_prefixes;
+  prefix_vlans = valid.prefix_vlans;
   prefixes = valid.prefixes;
 }
 

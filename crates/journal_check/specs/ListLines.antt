@@ -1,20 +1,21 @@
 -- The lines that a header has behind those of the settings: ports, prefixes and `begin`. Which may come next, and what came
 -- of taking one.
-use Rattle.std.specs.Prelude.{◌≡◌, ◌≢◌, ◌+◌, ◌-◌, ◌<◌, ◌≤◌, ℕ, None, List, [], ◌∷◌, ◌++◌, length, map, All, AllPairs, slice_index, slice_index_or}
+use Rattle.std.specs.Prelude.{◌≡◌, ◌≢◌, ◌+◌, ◌-◌, ◌<◌, ◌≤◌, ℕ, None, List, [], ◌∷◌, ◌++◌, length, map, All, AllPairs, slice_index_or}
 use Rattle.std.specs.List.Sorted.{IsStrictlyIncreasing}
 use Rattle.savi_kinds.specs.declared.plan.Plan.{Plan}
 use Rattle.savi_kinds.specs.declared.plan.PortPlan.{PortPlan}
 use Rattle.savi_kinds.specs.declared.plan.PrefixPlan.{PrefixPlan}
 use Rattle.savi_kinds.specs.declared.plan.Role.{Role}
-use Rattle.savi_kinds.specs.declared.plan.Method.{Method}
 use Rattle.savi_kinds.specs.declared.plan.Format.{Format}
+use Rattle.savi_kinds.specs.declared.plan.Vlan.{Vlan}
 use Rattle.savi_kinds.specs.declared.port.Port.{Port}
-use Rattle.savi_kinds.specs.declared.address.Prefix.{Prefix}
 use Rattle.savi_kinds.specs.Ports.{number_of}
-use Rattle.savi_kinds.specs.Prefixes.{first_of, past_of}
-use Rattle.savi_kinds.specs.ValidPlan.{IsPlanPrefix, nets_of, numbers_of}
+use Rattle.savi_kinds.specs.Prefixes.{first_of}
+use Rattle.savi_kinds.specs.ValidPlan.{HasPlanVlans, IsPlanPrefix, StandsBefore, nets_of, numbers_of}
+use Rattle.savi_kinds.specs.Vlans.{IsVlan, vlans_of_ports}
 use Rattle.hist_store.specs.TextOfLines.{joined}
-use Rattle.hist_store.specs.JournalTexts.{address_text, begin_line, journal_port_fields, journal_port_line, prefix_fields, prefix_line}
+use Rattle.hist_store.specs.HeaderLines.{IsAbove}
+use Rattle.hist_store.specs.JournalTexts.{address_text, begin_line, journal_port_fields, prefix_fields}
 use Rattle.savi_history.specs.Journals.{IsAddress, without_port_names}
 use Rattle.journal_check.specs.declared.settings.Settings.{Settings}
 use Rattle.journal_check.specs.declared.lists.Listed.{Listed}
@@ -28,8 +29,8 @@ abbrev pub list_lines : List PortPlan → List PrefixPlan → List LineFields
 list_lines ports prefixes = map journal_port_fields ports ++ map (prefix_fields address_text) prefixes
 
 -- a port without names
-abbrev pub port_by : Port → Role → Format → PortPlan
-port_by port role format = record { number = port; role = role; format = format; input = []; output = [] }
+abbrev pub port_by : Port → Role → Format → Vlan → PortPlan
+port_by port role format vlan = record { number = port; role = role; format = format; input = []; output = []; vlan = vlan }
 
 -- the plan of settings, ports and prefixes, without names
 abbrev pub plan_by : Settings → List PortPlan → List PrefixPlan → Plan
@@ -50,50 +51,53 @@ plan_by settings ports prefixes = record {
   prefixes = prefixes;
 }
 
--- the number is above the last one, if there is one
-abbrev pub IsAbove : List ℕ → ℕ → Type 0
-IsAbove numbers n = 0 < length numbers → slice_index numbers (length numbers - 1) < n
-
--- the prefix begins behind the end of the last one, if there is one
-abbrev pub IsBehindLast : List Prefix → Prefix → Type 0
-IsBehindLast nets next = (d : Prefix) → 0 < length nets → past_of (slice_index_or nets (length nets - 1) d) ≤ first_of next
+-- the prefix stands behind the last one, if there is one
+abbrev pub IsBehindLast : List PrefixPlan → PrefixPlan → Type 0
+IsBehindLast prefixes next = (d : PrefixPlan) → 0 < length prefixes → StandsBefore (slice_index_or prefixes (length prefixes - 1) d) next
 
 -- ports and prefixes with which a plan may begin, without names
 pub record AreLists (ports : List PortPlan) (prefixes : List PrefixPlan) : Type 0 where
   pub port_count : length ports ≤ 16
   pub ports_rise : IsStrictlyIncreasing (numbers_of ports)
+  pub port_vlans : All HasPlanVlans ports
+  pub vlan_count : length (vlans_of_ports ports) ≤ 8
   pub nameless : map without_port_names ports ≡ ports
   pub prefix_count : length prefixes ≤ 32
   pub behind_port : 0 < length prefixes → 0 < length ports
   pub plan_prefixes : All IsPlanPrefix (nets_of prefixes)
-  pub prefixes_part : AllPairs (λ p q. past_of p ≤ first_of q) (nets_of prefixes)
+  pub prefix_vlans : All (λ p. IsVlan p.vlan) prefixes
+  pub prefixes_part : AllPairs StandsBefore prefixes
   pub addresses : All (λ net. IsAddress (first_of net)) (nets_of prefixes)
 
 -- the line of this port may come next
-pub record MayAddPort (ports : List PortPlan) (prefixes : List PrefixPlan) (port : Port) : Type 0 where
+pub record MayAddPort (ports : List PortPlan) (prefixes : List PrefixPlan) (next : PortPlan) : Type 0 where
   pub few : length ports < 16
   pub no_prefix : prefixes ≡ []
-  pub above : IsAbove (numbers_of ports) (number_of port)
+  pub above : IsAbove (numbers_of ports) (number_of next.number)
+  pub vlans : HasPlanVlans next
+  -- over all ports
+  pub vlan_count : length (vlans_of_ports (ports ++ next ∷ [])) ≤ 8
 
 -- the line of this prefix may come next
-pub record MayAddPrefix (ports : List PortPlan) (prefixes : List PrefixPlan) (prefix : Prefix) : Type 0 where
+pub record MayAddPrefix (ports : List PortPlan) (prefixes : List PrefixPlan) (next : PrefixPlan) : Type 0 where
   pub some_port : 0 < length ports
   pub few : length prefixes < 32
-  pub plan_prefix : IsPlanPrefix prefix
-  pub address : IsAddress (first_of prefix)
-  pub past : IsBehindLast (nets_of prefixes) prefix
+  pub plan_prefix : IsPlanPrefix next.prefix
+  pub address : IsAddress (first_of next.prefix)
+  pub vlan : IsVlan next.vlan
+  pub past : IsBehindLast prefixes next
 
 -- the line is none that may come next
 pub record IsNotListed (ports : List PortPlan) (prefixes : List PrefixPlan) (line : List ℕ) : Type 0 where
-  pub port : (port : Port) (role : Role) (format : Format) → MayAddPort ports prefixes port → line ≢ joined (journal_port_line port role format)
-  pub prefix : (prefix : Prefix) (method : Method) → MayAddPrefix ports prefixes prefix → line ≢ joined (prefix_line address_text prefix method)
+  pub port : (next : PortPlan) → MayAddPort ports prefixes next → line ≢ joined (journal_port_fields next)
+  pub prefix : (next : PrefixPlan) → MayAddPrefix ports prefixes next → line ≢ joined (prefix_fields address_text next)
   pub begin : 0 < length ports → line ≢ joined begin_line
 
 -- what the line says behind these ports and prefixes
 abbrev pub SaysListed : Listed → List PortPlan → List PrefixPlan → List ℕ → Type 0
-SaysListed (listed.Port port role format) ports prefixes line = MayAddPort ports prefixes port × (line ≡ joined (journal_port_line port role format))
-SaysListed (listed.Prefix prefix method) ports prefixes line =
-    MayAddPrefix ports prefixes prefix × (line ≡ joined (prefix_line address_text prefix method))
+SaysListed (listed.Port port role format vlan) ports prefixes line =
+    MayAddPort ports prefixes (port_by port role format vlan) × (line ≡ joined (journal_port_fields (port_by port role format vlan)))
+SaysListed (listed.Prefix next) ports prefixes line = MayAddPrefix ports prefixes next × (line ≡ joined (prefix_fields address_text next))
 SaysListed listed.Begin ports prefixes line = (0 < length ports) × (line ≡ joined begin_line)
 SaysListed listed.Bad ports prefixes line = IsNotListed ports prefixes line
 

@@ -21,6 +21,7 @@ mod ranges;
 mod reading;
 mod settings;
 mod turns;
+mod vlans;
 
 pub use answer::{Checked, FIELD_OCTETS, FieldText};
 pub use laws::{

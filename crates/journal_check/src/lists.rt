@@ -1,22 +1,18 @@
 //! The lines of a journal's header behind the settings: the ports, the prefixes and `begin`.
 
 ghost use Rattle.std.specs.Prelude.{◌≡◌, ◌≢◌, ◌↔◌, ◌+◌, ◌-◌, ◌<◌, ◌≤◌, [], ◌∷◌, ◌++◌, IfNone, IfOk, IfSome, IsTrue, length, slice_index, slice_index_or, vec_capacity};
-ghost use Rattle.savi_kinds.specs.declared.address.Prefix.{Prefix};
-ghost use Rattle.savi_kinds.specs.declared.plan.Role.{Role};
-ghost use Rattle.savi_kinds.specs.declared.plan.Method.{Method};
-ghost use Rattle.savi_kinds.specs.declared.plan.Format.{Format};
-ghost use Rattle.savi_kinds.specs.declared.port.Port.{Port};
+ghost use Rattle.savi_kinds.specs.declared.plan.PortPlan.{PortPlan};
+ghost use Rattle.savi_kinds.specs.declared.plan.PrefixPlan.{PrefixPlan};
 ghost use Rattle.savi_kinds.specs.Ports.{number_of};
 ghost use Rattle.savi_kinds.specs.Prefixes.{IsPrefix};
-ghost use Rattle.savi_kinds.specs.ValidPlan.{nets_of, numbers_of};
+ghost use Rattle.savi_kinds.specs.ValidPlan.{numbers_of};
 ghost use Rattle.hist_store.specs.TextOfLines.{joined};
-ghost use Rattle.hist_store.specs.JournalTexts.{address_text, begin_line, journal_port_line, prefix_line};
+ghost use Rattle.hist_store.specs.JournalTexts.{address_text, begin_line, journal_port_fields, prefix_fields};
 
 use crate::ranges::is_plan_prefix;
+use crate::vlans::may_have_vlans;
 use hist_store::{is_begin_line, read_port_line, read_prefix_line};
-use savi_kinds::{
-    Format, Method, PORTS_MOST, PREFIXES_MOST, Port, PortPlan, Prefix, PrefixPlan, Role, Text,
-};
+use savi_kinds::{Format, PORTS_MOST, PREFIXES_MOST, Port, PortPlan, PrefixPlan, Role, Text, Vlan};
 use std::alloc::{AllocError, Global};
 
 /// The ports and prefixes of a plan, as far as they were read, with room for all that a plan may have. They have no names.
@@ -29,10 +25,10 @@ pub struct Lists {
 }
 
 /// What a line says behind those that were read.
-#[derive(Clone, Copy, PartialEq, Eq, Debug)]
+#[derive(PartialEq, Eq, Debug, Drop)]
 pub enum Listed {
-    Port(Port, Role, Format),
-    Prefix(Prefix, Method),
+    Port(Port, Role, Format, Vlan),
+    Prefix(PrefixPlan),
     Begin,
     /// It is none that may stand there.
     Bad,
@@ -66,12 +62,12 @@ impl Lists {
         ensures { Adds result line.now self.old.ports.items self.old.prefixes.items self.new.ports.items self.new.prefixes.items }
     {
         match self.read(line) {
-            Listed::Port(port, role, format) => {
-                self.add_port(alloc, port, role, format);
+            Listed::Port(number, role, format, vlan) => {
+                self.add_port(alloc, number, role, format, vlan);
                 Added::Line
             }
-            Listed::Prefix(prefix, method) => {
-                self.add_prefix(prefix, method);
+            Listed::Prefix(plan) => {
+                self.add_prefix(plan);
                 Added::Line
             }
             Listed::Begin => Added::Begin,
@@ -85,11 +81,13 @@ impl Lists {
         ensures { SaysListed result self.now.ports.items self.now.prefixes.items line.now }
     {
         match self.read_port(line) {
-            Some(read) => return Listed::Port(read.0, read.1, read.2),
+            Some((number, role, format, vlan)) => {
+                return Listed::Port(number, role, format, vlan);
+            }
             None => {}
         }
         match self.read_prefix(line) {
-            Some(read) => return Listed::Prefix(read.0, read.1),
+            Some(plan) => return Listed::Prefix(plan),
             None => {}
         }
         if self.read_begin(line) {
@@ -100,10 +98,12 @@ impl Lists {
     }
 
     // The port that the line says, if one may come next.
-    fn read_port(&self, line: &[u8]) -> Option<(Port, Role, Format)>
-        ensures read { IfSome result (λ r. MayAddPort self.now.ports.items self.now.prefixes.items r.0 × (line.now ≡ joined (journal_port_line r.0 r.1 r.2))) }
-        ensures none { IfNone result ((port : Port) (role : Role) (format : Format) → MayAddPort self.now.ports.items self.now.prefixes.items port
-            → line.now ≢ joined (journal_port_line port role format)) }
+    fn read_port(&self, line: &[u8]) -> Option<(Port, Role, Format, Vlan)>
+        requires { AreLists self.now.ports.items self.now.prefixes.items }
+        ensures read { IfSome result (λ r. MayAddPort self.now.ports.items self.now.prefixes.items (port_by r.0 r.1 r.2 r.3)
+            × (line.now ≡ joined (journal_port_fields (port_by r.0 r.1 r.2 r.3)))) }
+        ensures none { IfNone result ((next : PortPlan) → MayAddPort self.now.ports.items self.now.prefixes.items next
+            → line.now ≢ joined (journal_port_fields next)) }
     {
         if self.ports.len() >= PORTS_MOST {
             return None;
@@ -111,15 +111,20 @@ impl Lists {
         if !self.prefixes.is_empty() {
             return None;
         }
-        read_port_line(line, self.last_port())
+        let (number, role, format, vlan) = read_port_line(line, self.last_port())?;
+        if may_have_vlans(role, &vlan, self.ports.as_slice()) {
+            Some((number, role, format, vlan))
+        } else {
+            None
+        }
     }
 
     // The prefix that the line says, if one may come next.
-    fn read_prefix(&self, line: &[u8]) -> Option<(Prefix, Method)>
+    fn read_prefix(&self, line: &[u8]) -> Option<PrefixPlan>
         requires { AreLists self.now.ports.items self.now.prefixes.items }
-        ensures read { IfSome result (λ r. MayAddPrefix self.now.ports.items self.now.prefixes.items r.0 × (line.now ≡ joined (prefix_line address_text r.0 r.1))) }
-        ensures none { IfNone result ((prefix : Prefix) (method : Method) → MayAddPrefix self.now.ports.items self.now.prefixes.items prefix
-            → line.now ≢ joined (prefix_line address_text prefix method)) }
+        ensures read { IfSome result (λ plan. MayAddPrefix self.now.ports.items self.now.prefixes.items plan × (line.now ≡ joined (prefix_fields address_text plan))) }
+        ensures none { IfNone result ((next : PrefixPlan) → MayAddPrefix self.now.ports.items self.now.prefixes.items next
+            → line.now ≢ joined (prefix_fields address_text next)) }
     {
         if self.ports.is_empty() {
             return None;
@@ -128,9 +133,9 @@ impl Lists {
             return None;
         }
         match read_prefix_line(line, self.last_prefix()) {
-            Some(read) => {
-                if is_plan_prefix(read.0) {
-                    Some(read)
+            Some(plan) => {
+                if is_plan_prefix(plan.prefix) {
+                    Some(plan)
                 } else {
                     None
                 }
@@ -157,23 +162,23 @@ impl Lists {
         }
     }
 
-    fn last_prefix(&self) -> Option<Prefix>
+    fn last_prefix(&self) -> Option<PrefixPlan>
         requires { AreLists self.now.ports.items self.now.prefixes.items }
         ensures none { IfNone result (self.now.prefixes.items ≡ []) }
-        ensures some { IfSome result (λ prefix. (0 < length self.now.prefixes.items)
-            × ((d : Prefix) → slice_index_or (nets_of self.now.prefixes.items) (length self.now.prefixes.items - 1) d ≡ prefix)) }
-        ensures valid { IfSome result IsPrefix }
+        ensures some { IfSome result (λ plan. (0 < length self.now.prefixes.items)
+            × ((d : PrefixPlan) → slice_index_or self.now.prefixes.items (length self.now.prefixes.items - 1) d ≡ plan)) }
+        ensures valid { IfSome result (λ plan. IsPrefix plan.prefix) }
     {
         match self.prefixes.last() {
-            Some(plan) => Some(plan.prefix),
+            Some(plan) => Some(*plan),
             None => None,
         }
     }
 
     // Adds a port without names. There is room for it.
-    fn add_port(&mut self, alloc: Global, number: Port, role: Role, format: Format)
+    fn add_port(&mut self, alloc: Global, number: Port, role: Role, format: Format, vlan: Vlan)
         requires { length self.old.ports.items < 16 }
-        ensures ports { self.new.ports.items ≡ self.old.ports.items ++ port_by number role format ∷ [] }
+        ensures ports { self.new.ports.items ≡ self.old.ports.items ++ port_by number role format vlan ∷ [] }
         ensures prefixes { self.new.prefixes.items ≡ self.old.prefixes.items }
     {
         let added = self.ports.push(PortPlan {
@@ -182,6 +187,7 @@ impl Lists {
             format,
             input: Text::new(String::new(alloc)),
             output: Text::new(String::new(alloc)),
+            vlan,
         });
         match added {
             Ok(()) => {}
@@ -190,12 +196,12 @@ impl Lists {
     }
 
     // Adds a prefix. There is room for it.
-    fn add_prefix(&mut self, prefix: Prefix, method: Method)
+    fn add_prefix(&mut self, plan: PrefixPlan)
         requires { length self.old.prefixes.items < 32 }
         ensures ports { self.new.ports.items ≡ self.old.ports.items }
-        ensures prefixes { self.new.prefixes.items ≡ self.old.prefixes.items ++ record { prefix = prefix; method = method } ∷ [] }
+        ensures prefixes { self.new.prefixes.items ≡ self.old.prefixes.items ++ plan ∷ [] }
     {
-        match self.prefixes.push(PrefixPlan { prefix, method }) {
+        match self.prefixes.push(plan) {
             Ok(()) => {}
             Err(_) => unreachable!(),
         }

@@ -88,8 +88,8 @@ fn make(alloc: Global, plan: Plan) -> Result<(Core, Batch), AllocError>
     requires { IsPlan plan }
     ensures { IfOk result (λ made. made.0 ≡ started plan) }
 {
-    let core = Core::make(alloc, plan)?;
     let batch = Batch::make(alloc)?;
+    let core = Core::make(alloc, plan)?;
     Ok((core, batch))
 }
 

@@ -1,11 +1,13 @@
-//! Stateful RA-Guard over histories of frames at two ports, a host's and a trusted one, and what is learned from them.
+//! Stateful RA-Guard over histories of frames at two ports of VLAN 1, a host's and a trusted one, and at two that are passed
+//! over, and what is learned from them.
 //!
 //! The input is lines, of which those that begin with `#` are passed over:
 //!
 //!     == TEXT                   is printed as it stands: what the lines behind it show
 //!     name NAME DIGITS          octets of a frame in hexadecimal digits
-//!     plan WINDOW               a history begins, with a window of so many ms: port 1 is a host's and port 2 trusted
-//!     plan WINDOW PREFIX        the same of a plan that has a prefix, of first come
+//!     plan WINDOW               a history begins, with a window of so many ms: port 1 is a host's and port 2 trusted,
+//!                               port 3 is a host's in VLAN 20, and port 4 a trunk of VLANs 1 and 20
+//!     plan WINDOW PREFIX        the same of a plan that has a prefix in VLAN 1, of first come
 //!     fail WRITE                the write of this number will fail, from 1 on
 //!     frame PORT STAMP NAME     a frame
 //!     long PORT STAMP OCTETS    a frame of more than 1,518 octets

@@ -3,43 +3,66 @@
 use crate::frames::port_of;
 use anyhow::bail;
 use savi_kinds::{
-    Format, Mac, Method, Plan, PortPlan, PortPlans, PrefixPlan, PrefixPlans, Role, Text,
-    read_prefix,
+    DEFAULT_VLAN, Format, Mac, Method, Plan, PortPlan, PortPlans, PrefixPlan, PrefixPlans, Role,
+    Text, Vlan, Vlans, add_vlan, read_prefix,
 };
 use std::alloc::Global;
 
-/// A plan in which port 1 is a host's and port 2 trusted, with this prefix, or none where nothing is written.
+/// Another VLAN than the default one.
+const OTHER_VLAN: u16 = 20;
+
+/// A plan in which port 1 is a host's and port 2 trusted, with this prefix, or none where nothing is written. Port 3 is a
+/// host's in another VLAN, port 4 a trunk of both VLANs, and 2001:db8:20::/64 a prefix of the other one.
 pub fn plan_of(alloc: Global, prefix: &str) -> anyhow::Result<Plan> {
     let prefixes = prefixes_of(alloc, prefix)?;
     let mut ports = Vec::new(alloc);
-    ports.push(port(alloc, "1", Role::Host)?)?;
-    ports.push(port(alloc, "2", Role::Trusted)?)?;
+    ports.push(port(alloc, "1", Role::Host, Vlan::Access(DEFAULT_VLAN))?)?;
+    ports.push(port(alloc, "2", Role::Trusted, Vlan::Access(DEFAULT_VLAN))?)?;
+    ports.push(port(alloc, "3", Role::Host, Vlan::Access(OTHER_VLAN))?)?;
+    ports.push(port(alloc, "4", Role::Trusted, trunk())?)?;
     let journal = Text::new(String::from_str(alloc, "journal.txt")?);
     Ok(plan(PortPlans::new(ports), prefixes, journal))
 }
 
-// The prefix that a text writes, or none where nothing is written.
+// A trunk of both VLANs.
+fn trunk() -> Vlan {
+    let mut vlans = Vlans::new();
+    add_vlan(&mut vlans, DEFAULT_VLAN);
+    add_vlan(&mut vlans, OTHER_VLAN);
+    Vlan::Trunk(vlans)
+}
+
+// The prefix that a text writes, or none where nothing is written, and one of the other VLAN.
 fn prefixes_of(alloc: Global, text: &str) -> anyhow::Result<PrefixPlans> {
     let mut prefixes = Vec::new(alloc);
-    match read_prefix(text.as_bytes()) {
-        Some(prefix) => prefixes.push(PrefixPlan {
-            prefix,
-            method: Method::Fcfs,
-        })?,
-        None if text.is_empty() => {}
-        None => bail!("no prefix: {text}"),
+    if !text.is_empty() {
+        prefixes.push(prefix(text, DEFAULT_VLAN)?)?;
     }
+    prefixes.push(prefix("2001:db8:20::/64", OTHER_VLAN)?)?;
     Ok(PrefixPlans::new(prefixes))
 }
 
+// The prefix that a text writes, of a VLAN.
+fn prefix(text: &str, vlan: u16) -> anyhow::Result<PrefixPlan> {
+    match read_prefix(text.as_bytes()) {
+        Some(prefix) => Ok(PrefixPlan {
+            prefix,
+            method: Method::Fcfs,
+            vlan,
+        }),
+        None => bail!("no prefix: {text}"),
+    }
+}
+
 // A port that reads and writes nothing here.
-fn port(alloc: Global, number: &str, role: Role) -> anyhow::Result<PortPlan> {
+fn port(alloc: Global, number: &str, role: Role, vlan: Vlan) -> anyhow::Result<PortPlan> {
     Ok(PortPlan {
         number: port_of(number)?,
         role,
         format: Format::Pcap,
         input: Text::new(String::from_str(alloc, "in")?),
         output: Text::new(String::from_str(alloc, "out")?),
+        vlan,
     })
 }
 

@@ -1,5 +1,6 @@
 pub mod Taking
 pub mod Telling
+pub mod TurnTaken
 pub mod Measuring
 pub mod Hearing
 pub mod Undone

@@ -26,7 +26,7 @@ use Rattle.port_worker.proofs.Later.{behind_none}
 use Rattle.port_worker.proofs.Planned.{count_is}
 use Rattle.port_worker.proofs.Progress.{head_of, head_ahead, turn_at_moment, done_at_none}
 use Rattle.port_worker.proofs.Running.{head_at, element, moments_same, all_read}
-use Rattle.ra_learn.specs.Printed.{PortArrival, advert_lines, printed, seen_of}
+use Rattle.ra_learn.specs.Printed.{PortArrival, advert_lines, printed, sightings_of}
 use Rattle.ra_learn.specs.Reports.{HasReported, Wrote}
 use Rattle.learn_run.specs.declared.learning.Learning.{Learning}
 use Rattle.learn_run.specs.declared.learning.Ending.{Ending}
@@ -51,7 +51,7 @@ pub record Running {S K C O : Type 0} (left : S → Option (List ℕ)) (source_f
   pub room : length new.endings.items + undone ports ≡ length first
   pub capacity : vec_capacity old.endings ≤ vec_capacity new.endings
   pub tells : (window : ℕ) → IsBegun plan window old → HasReported plan window (arrivals_of past) new.report
-  pub wrote : (window : ℕ) → IsBegun plan window old → Wrote (advert_lines plan window (seen_of (arrivals_of past))) new.report.put (written out) (written out') (faults out) (faults out')
+  pub wrote : (window : ℕ) → IsBegun plan window old → Wrote (advert_lines plan window (sightings_of plan (arrivals_of past))) new.report.put (written out) (written out') (faults out) (faults out')
 
 -- how many inputs aren't done
 
@@ -352,7 +352,7 @@ module _ {S K C O : Type 0} (left : S → Option (List ℕ)) (source_faults : S 
         (heard left source_faults (get_or first place d) (get_or ports place d) (get_or r.taken place []) (r.each place d inside_first) (done_at place d (omega arith)))
 
     pub running_end : (window : ℕ) (put : Put) (out_end : O) → ((arrivals : List PortArrival) (before : Option (List ℕ)) (from : ℕ) → HasReported plan window arrivals new.report
-        → Wrote (advert_lines plan window (seen_of arrivals)) new.report.put before (written out') from (faults out')
+        → Wrote (advert_lines plan window (sightings_of plan arrivals)) new.report.put before (written out') from (faults out')
         → Wrote (printed plan window arrivals) put before (written out_end) from (faults out_end))
         → IsBegun plan window old → LearnsEnds left source_faults written faults plan window new.endings.items put first ports out out_end
     running_end window put out_end finish begun = record {

@@ -4,7 +4,7 @@ use Rattle.savi_kinds.specs.declared.plan.Plan.{Plan}
 use Rattle.savi_history.specs.Turns.{Turn, Arrives, Commands, Ends}
 use Rattle.port_worker.specs.declared.port_ends.PortEnds.{PortEnds}
 use Rattle.port_worker.specs.PortTurns.{ahead_passed}
-use Rattle.ra_learn.specs.Printed.{PortArrival, advert_lines, seen_of}
+use Rattle.ra_learn.specs.Printed.{PortArrival, advert_lines, sightings_of}
 use Rattle.ra_learn.specs.Reports.{HasReported, Wrote}
 use Rattle.learn_run.specs.declared.learning.Learning.{Learning}
 use Rattle.learn_run.specs.Turns.{endings_of}
@@ -26,5 +26,5 @@ pub record IsTurnTaken {O : Type 0} (written : O → Option (List ℕ)) (faults 
   pub capacity : vec_capacity old.endings ≤ vec_capacity new.endings
   pub tells : (plan : Plan) (window : ℕ) (arrivals : List PortArrival) → HasReported plan window arrivals old.report → HasReported plan window (with_turn turn arrivals) new.report
   pub wrote : (plan : Plan) (window : ℕ) (arrivals : List PortArrival) (before : Option (List ℕ)) (count : ℕ) → HasReported plan window arrivals old.report
-      → Wrote (advert_lines plan window (seen_of arrivals)) old.report.put before (written out) count (faults out)
-      → Wrote (advert_lines plan window (seen_of (with_turn turn arrivals))) new.report.put before (written out') count (faults out')
+      → Wrote (advert_lines plan window (sightings_of plan arrivals)) old.report.put before (written out) count (faults out)
+      → Wrote (advert_lines plan window (sightings_of plan (with_turn turn arrivals))) new.report.put before (written out') count (faults out')

@@ -18,10 +18,7 @@ pub fn print_header_line(rt: &impl Print, before: &str, text: &str) -> anyhow::R
         Some(read) => Some(read.0),
         None => None,
     };
-    let last_prefix = match read_prefix_line(before.as_bytes(), None) {
-        Some(read) => Some(read.0),
-        None => None,
-    };
+    let last_prefix = read_prefix_line(before.as_bytes(), None);
     print_value(rt, "version", read_version_line(line))?;
     print_value(rt, "mac", read_mac_line(line))?;
     print_value(rt, "savi", read_savi_line(line))?;
@@ -30,12 +27,17 @@ pub fn print_header_line(rt: &impl Print, before: &str, text: &str) -> anyhow::R
         print_value(rt, name, read_setting(line, name))?;
     }
     print_value(rt, "port", read_port_line(line, last_port))?;
-    print_value(rt, "prefix", read_prefix_line(line, last_prefix))?;
+    let prefix = read_prefix_line(line, last_prefix);
+    print_value(
+        rt,
+        "prefix",
+        prefix.map(|plan| (plan.prefix, plan.method, plan.vlan)),
+    )?;
     print_value(rt, "begin", is_begin_line(line).then_some(true))
 }
 
 // Prints a value that was read, if any was.
-fn print_value<T: Copy + Debug>(
+fn print_value<T: Drop + Debug>(
     rt: &impl Print,
     name: &str,
     value: Option<T>,

@@ -5,7 +5,7 @@ ghost use Rattle.savi_kinds.specs.Ports.{number_of};
 ghost use Rattle.savi_kinds.specs.declared.entry.Who.TheVariants.{Ingress};
 ghost use Rattle.hist_store.specs.Rows.{Row};
 ghost use Rattle.savi_history.specs.Legal.{MayEndIngress};
-ghost use Rattle.savi_core.specs.Steps.{IsClassed, event_of};
+ghost use Rattle.savi_core.specs.Steps.{IsSeenRightly, event_of};
 ghost use Rattle.core_keep.specs.Seen.{past_seen};
 ghost use Rattle.parcel_ring.specs.Handed.{IsReadEnd};
 ghost use Rattle.live_turns.specs.Seats.{IsEndedPass, IsAt, IsRunning, lock_plan};
@@ -21,7 +21,7 @@ use savi_kinds::{How, Port, Who};
 use std::sync::Wait;
 use table_lock::TableLock;
 
-/// Enters an arrival in one turn: an `Event::Frame` with the class of its octets, or an `Event::Long`. The answer is the
+/// Enters an arrival in one turn: an `Event::Frame` with what is seen of its octets, or an `Event::Long`. The answer is the
 /// pass again, and whether the arrival was entered: the history holds it behind those that came before it at its port. Else
 /// there was no room for it, and the input is paused. It costs what `Core::step` costs.
 pub(crate) fn enter_arrival<R: Wait, G: Gate>(
@@ -33,7 +33,7 @@ pub(crate) fn enter_arrival<R: Wait, G: Gate>(
 ) -> (Turns, bool)
     requires running { IsRunning lock.now (maker_of (event_of event)) turns.pass }
     requires frame { IsFrame (event_of event) }
-    requires class { IsClassed event }
+    requires seen { IsSeenRightly event }
     ensures entered { EntersEvent (event_of event.entry) result.1 (past_seen turns.pass) (past_seen result.0.pass) }
     ensures state { IsAt lock.now (maker_of (event_of event.entry)) (not result.1) result.0.pass }
 {

@@ -17,7 +17,7 @@ ghost use Rattle.live_input.specs.Judged.{InputGoes, JudgesOne, StandsAs, has_st
 use crate::entering::{enter_arrival, enter_ending, look_for_room};
 use crate::state::InputState;
 use core_keep::KeptCore;
-use frame_class::class;
+use frame_class::seen;
 use live_turns::{Gate, PauseSignal, Turns};
 use parcel_ring::{Arrival, Parcel, ParcelTaker};
 use savi_core::Event;
@@ -167,12 +167,12 @@ fn judge_one<R: Wait, G: Gate>(
 {
     match came {
         Arrival::Frame { stamp, octets } => {
-            let class = class(octets);
+            let seen = seen(octets);
             let frame = Event::Frame {
                 port,
                 stamp,
                 octets,
-                class: &class,
+                seen: &seen,
             };
             let (turns, is_entered) = enter_arrival(rt, lock, gate, turns, frame);
             (turns, InputState::behind(is_entered))

@@ -19,7 +19,7 @@ ghost use Rattle.live_input.specs.Judged.{JudgesOne, kept_of};
 use crate::judge::Ingress;
 use crate::state::InputState;
 use core_keep::KeptCore;
-use frame_class::class;
+use frame_class::seen;
 use live_turns::{end_pass, enter_frame, pause_if_full};
 use parcel_ring::{Arrival, Parcel};
 use savi_core::Event;
@@ -80,12 +80,12 @@ fn judge_now(core: &mut KeptCore, port: Port, came: Arrival<'_>) -> InputState
 {
     match came {
         Arrival::Frame { stamp, octets } => {
-            let class = class(octets);
+            let seen = seen(octets);
             let frame = Event::Frame {
                 port,
                 stamp,
                 octets,
-                class: &class,
+                seen: &seen,
             };
             let (is_entered, _) = enter_frame(core, frame);
             InputState::behind(is_entered)

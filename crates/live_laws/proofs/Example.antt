@@ -4,20 +4,28 @@ use Rattle.std.proofs.Common.{◌≡◌, ◌≢◌, ℕ, zero, suc, ◌<◌, tru
 use Rattle.std.specs.List.{concat}
 use Rattle.std.specs.List.Sorted.{IsStrictlyIncreasing}
 use Rattle.std.proofs.lemmas.List.Elements.{All-nil, All-cons}
+use Rattle.std.proofs.lemmas.Bool.{false≢true}
+use Rattle.savi_kinds.specs.declared.port.Port.{Port}
+use Rattle.savi_kinds.specs.declared.plan.Role.{Role}
+use Rattle.savi_kinds.specs.declared.plan.Format.{Format}
 use Rattle.savi_kinds.specs.declared.plan.Plan.{Plan}
+use Rattle.savi_kinds.specs.declared.plan.PrefixPlan.{PrefixPlan}
 use Rattle.savi_kinds.specs.declared.plan.PortPlan.{PortPlan}
 use Rattle.savi_kinds.specs.declared.plan.Role.TheVariants as roles
 use Rattle.savi_kinds.specs.declared.plan.Format.TheVariants as formats
+use Rattle.savi_kinds.specs.declared.plan.Vlan.TheVariants.{Access}
 use Rattle.savi_kinds.specs.declared.entry.Who.TheVariants as passes
 use Rattle.savi_kinds.specs.declared.entry.How.TheVariants as hows
 use Rattle.savi_kinds.specs.Arrivals.{Input}
 use Rattle.savi_kinds.specs.Arrivals as arrivals
 use Rattle.savi_kinds.specs.Characters.{line_feed}
-use Rattle.savi_kinds.specs.ValidPlan.{IsPlanPrefix, IsValidPlan}
+use Rattle.savi_kinds.specs.ValidPlan.{HasPlanVlans, IsPlanPrefix, IsValidPlan}
+use Rattle.savi_kinds.specs.Vlans.{IsVlan}
 use Rattle.savi_ends.specs.declared.world.Ends.{Ends}
 use Rattle.v6_chain.specs.Kinds.{kind_of}
 use Rattle.nd_read.specs.Messages.{named}
 use Rattle.nd_read.specs.NdOf.{nd_of, passes as message_passes}
+use Rattle.eth_frame.specs.Tags.{tag_of}
 use Rattle.frame_class.specs.ClassOf.{class_of}
 use Rattle.ra_guard.specs.GuardOf.{guard_of}
 use Rattle.port_reader.specs.Inputs.{AreArrivals}
@@ -64,8 +72,17 @@ plan = record {
   life = 300000;
   control = Some ([], []);
   journal = [];
-  ports = record { number = port_one; role = roles.Host; format = formats.Stream; input = []; output = [] } ∷ [];
+  ports = record { number = port_one; role = roles.Host; format = formats.Stream; input = []; output = []; vlan = Access 1 } ∷ [];
   prefixes = [];
+}
+
+-- a port of VLAN 1 alone
+of_one : {number : Port} {role : Role} {format : Format} → HasPlanVlans (record { number = number; role = role; format = format; input = []; output = []; vlan = Access 1 })
+of_one = record {
+  numbers = All-cons IsVlan 1 [] (lit≤ tt, lit≤ tt) (All-nil IsVlan);
+  some = lit≤ tt;
+  rising = λ k inside. absurd (omega (arith, inside));
+  trusted = λ trunk. absurd (false≢true trunk);
 }
 
 pub plan_is_valid : IsValidPlan plan
@@ -81,8 +98,11 @@ plan_is_valid = record {
   life = (300, refl, (lit≤ tt, lit≤ tt));
   port_count = (lit≤ tt, lit≤ tt);
   ports = one_rises;
+  port_vlans = All-cons HasPlanVlans (record { number = port_one; role = roles.Host; format = formats.Stream; input = []; output = []; vlan = Access 1 }) [] of_one (All-nil HasPlanVlans);
+  vlan_count = lit≤ tt;
   prefix_count = lit≤ tt;
   plan_prefixes = All-nil IsPlanPrefix;
+  prefix_vlans = All-nil (λ (p : PrefixPlan). IsVlan p.vlan);
   prefixes = λ i j d lower inside. absurd (omega (arith, inside));
 }
   where
@@ -172,7 +192,7 @@ past_is_finished (suc (suc (suc zero))) within = refl
 past_is_finished (suc (suc (suc (suc pass)))) within = absurd (omega (arith, within))
 
 past_is_legal : IsLegal plan empty past
-unfolding class_of nd_of named message_passes kind_of guard_of judged offers probes lost
+unfolding tag_of class_of nd_of named message_passes kind_of guard_of judged offers probes lost
 past_is_legal = (
   (End (passes.Egress port_one) hows.End, (record { known = refl; running = refl }, ((ticker_ended, refl), refl)), refl),
   (
@@ -194,8 +214,8 @@ past_is_octets : AreOctets past
 past_is_octets = rows_of_octets past refl
 
 -- the port's frame came in, and nothing goes out there
-port_row : PortRow told told none_failed none_failed told plan (past ∷ []) (record { number = port_one; role = roles.Host; format = formats.Stream; input = []; output = [] }) old_port new_port
-unfolding class_of nd_of named message_passes kind_of guard_of judged offers probes lost
+port_row : PortRow told told none_failed none_failed told plan (past ∷ []) (record { number = port_one; role = roles.Host; format = formats.Stream; input = []; output = []; vlan = Access 1 }) old_port new_port
+unfolding tag_of class_of nd_of named message_passes kind_of guard_of judged offers probes lost
 port_row = (
   (
     hows.End,

@@ -13,13 +13,13 @@ use Rattle.stream_io.specs.Streams as streams
 use Rattle.cli_lang.specs.Arrivals.{Line}
 use Rattle.cli_lang.specs.Arrivals as control
 use Rattle.hist_store.specs.Rows.{Row, held}
+use Rattle.checkpoint.specs.Bases.{empty}
 use Rattle.savi_history.specs.ControlInputs.{entered_lines}
 use Rattle.savi_history.specs.Endings.{has_paused_end}
 use Rattle.savi_history.specs.Limits.{IsWithinLimits}
 use Rattle.savi_history.specs.PortInputs.{arrived}
-use Rattle.savi_history.specs.Vlans.{the_vlan}
 use Rattle.live_session.specs.LiveSession.{ControlOf, IsLive}
-use Rattle.savi_laws.specs.Budgets.{input_count, given_count, given_octets, kept_of, lines_of, arrivals_of, all_arrived, entries_most}
+use Rattle.savi_laws.specs.Budgets.{input_count, standing, given_count, given_octets, kept_of, lines_of, arrivals_of, all_arrived, entries_most}
 use Rattle.savi_segments.specs.Segments.{AreLegal, base_after, joined}
 use Rattle.savi_segments.specs.Unbroken.{unbroken}
 use Rattle.savi_laws.proofs.Enough.{few_entries}
@@ -118,19 +118,19 @@ module _ {S K C : Type 0} (left : S → Option (List ℕ)) (written : K → Opti
   module _ (valid : IsValidPlan plan) where
     -- of each segment, within the limits of what it goes on from
     pub few : (later before : List (List Row)) (segment : List Row) → segments ≡ later ++ segment ∷ before → (AreLegal plan before → IsWithinLimits plan (base_after plan before))
-        → length segment ≤ entries_most (causes_in (base_after plan before) lines inputs)
+        → length segment ≤ entries_most (causes_in plan (base_after plan before) lines inputs)
     few later before segment split within =
         let base = base_after plan before in
         let one = one_of plan later before segment (subst (AreLegal plan) split live.session.legal) in
         let all : input_count segment ≤ input_count (joined segments) = subst (λ (l : List (List Row)). input_count segment ≤ input_count (joined l)) (sym split) one.1 in
         let most = no_more.0 in
-        few_of_fewer (length segment) (input_count segment) (given_count (lines_of lines) (arrivals_of inputs)) (length (base.rows the_vlan)) (omega (arith, all, most))
+        few_of_fewer (length segment) (input_count segment) (given_count (lines_of lines) (arrivals_of inputs)) (standing plan base) (omega (arith, all, most))
         (few_entries plan base valid.port_count.1 (within one.0.2) segment one.0.0)
 
     pub not_full : SufficesFor plan lines inputs → (length segments ≡ 1) × (has_paused_end (joined segments) ≡ false)
     not_full suffices =
         let most = no_more in
         one_segment plan valid segments live.session (record {
-          entries = fewer (given_count (lines_of lines) (arrivals_of inputs) + 0) (input_count (joined segments)) plan.entries (omega (arith, most.0)) suffices.entries;
+          entries = fewer (given_count (lines_of lines) (arrivals_of inputs) + standing plan empty) (input_count (joined segments)) plan.entries (omega (arith, most.0)) suffices.entries;
           bytes = few_octets (held (joined segments)) (given_octets (lines_of lines) (arrivals_of inputs)) plan.bytes most.1 suffices.bytes;
         })

@@ -9,9 +9,8 @@ use Rattle.savi_ends.specs.declared.world.Ends.{Ends}
 use Rattle.port_reader.specs.Inputs.{AreArrivals}
 use Rattle.cli_lang.specs.Arrivals as control
 use Rattle.checkpoint.specs.Bases.{Base, empty}
-use Rattle.savi_history.specs.Vlans.{the_vlan}
 use Rattle.control_reader.specs.LiveLines.{AreLiveLines}
-use Rattle.savi_laws.specs.Budgets.{given_count, given_octets, lines_of, arrivals_of, Suffices}
+use Rattle.savi_laws.specs.Budgets.{standing, given_count, given_octets, lines_of, arrivals_of, Suffices}
 
 -- these octets, read to their end, are this input of a port, by the port's form; the stamps of a stream are free
 abbrev pub IsGivenInput : Format → List ℕ → Input → Type 0
@@ -39,9 +38,10 @@ pub record HaveInputs {S K C : Type 0} (left : S → Option (List ℕ)) (plan : 
 
 -- what may bring entries of a segment about: the frames, longer frames and lines of these inputs, and addresses that have a
 -- state in what it goes on from
-abbrev pub causes_in : Base → Option control.Input → List Input → ℕ
-causes_in base lines inputs = given_count (lines_of lines) (arrivals_of inputs) + length (base.rows the_vlan)
+abbrev pub causes_in : Plan → Base → Option control.Input → List Input → ℕ
+causes_in plan base lines inputs = given_count (lines_of lines) (arrivals_of inputs) + standing plan base
 
 -- the plan has room for any session of these inputs in one segment
 abbrev pub SufficesFor : Plan → Option control.Input → List Input → Type 0
-SufficesFor plan lines inputs = Suffices plan (causes_in empty lines inputs) (given_octets (lines_of lines) (arrivals_of inputs))
+SufficesFor plan lines inputs =
+    Suffices plan (causes_in plan empty lines inputs) (given_octets (lines_of lines) (arrivals_of inputs))

@@ -1,6 +1,6 @@
 // The law on how much room suffices for a live session. The function does nothing: its contract is the law.
 
-ghost use Rattle.std.specs.Prelude.{◌≡◌, ◌≤◌, ℕ, false, List, ◌∷◌, ◌++◌, length, Option};
+ghost use Rattle.std.specs.Prelude.{◌≡◌, ◌≤◌, false, List, ◌∷◌, ◌++◌, length, Option};
 ghost use Rattle.savi_kinds.specs.Arrivals.{Input};
 ghost use Rattle.savi_kinds.specs.ValidPlan.{IsValidPlan};
 ghost use Rattle.savi_kinds.specs.declared.plan.Plan.{Plan};
@@ -35,7 +35,7 @@ pub fn a_budget_suffices_for_a_live_session<S: Source, K: Sink, C: Clock>()
         → IsLive S.left K.written S.faults K.faults C.readings plan segments old_ports new_ports old_control new_control old_clock new_clock
         → HaveInputs S.left plan old_ports old_control lines inputs
         → segments ≡ later ++ segment ∷ before
-        → length segment ≤ entries_most (causes_in (base_after plan before) lines inputs) }
+        → length segment ≤ entries_most (causes_in plan (base_after plan before) lines inputs) }
     ensures enough { (plan : Plan) (segments : List (List Row)) (old_ports new_ports : List (Ends S K C))
         (old_control new_control : Option (Ends S K C)) (old_clock new_clock : C) (lines : Option control.Input) (inputs : List Input)
         → IsValidPlan plan

@@ -11,7 +11,7 @@ ghost use Rattle.live_output.specs.declared.gathered.TheConstants.{GATHERED_MOST
 
 use crate::records::put;
 use savi_ends::{Put, Sink};
-use savi_kinds::Format;
+use savi_kinds::{FRAME_OCTETS_OUT_MOST, Format};
 use std::alloc::{AllocError, Global};
 
 /// So many octets of records are gathered for one write.
@@ -47,7 +47,7 @@ impl Gathered {
     /// Adds the record of a frame that is sent at this moment (ms), where there is room for it, and says whether there was.
     /// O(n) in the octets of the frame.
     pub(crate) fn add(&mut self, format: Format, moment: u64, frame: &[u8]) -> bool
-        requires { length frame.now ≤ 1518 }
+        requires { length frame.now ≤ FRAME_OCTETS_OUT_MOST }
         ensures added { OnTrue result (self.new.octets.items ≡ self.old.octets.items ++ record_of format (item_with moment frame.now)) }
         ensures full { OnFalse result (self.new.octets.items ≡ self.old.octets.items) }
     {

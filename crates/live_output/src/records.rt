@@ -8,7 +8,7 @@ ghost use Rattle.savi_core.specs.Batches.{item_with};
 ghost use Rattle.live_output.specs.OutputParts.{beginning, record_of};
 
 use savi_ends::{Put, Sink};
-use savi_kinds::Format;
+use savi_kinds::{FRAME_OCTETS_OUT_MOST, Format};
 
 /// Begins an output: a capture has its header in front of the first frame, a stream nothing.
 pub(crate) fn begin<K: Sink>(format: Format, sink: &mut K) -> Put
@@ -25,7 +25,7 @@ pub(crate) fn begin<K: Sink>(format: Format, sink: &mut K) -> Put
 
 /// Writes the record of a frame that is sent at this moment (ms). O(n) in the octets of the frame.
 pub(crate) fn put<K: Sink>(format: Format, sink: &mut K, moment: u64, frame: &[u8]) -> Put
-    requires { length frame.now ≤ 1518 }
+    requires { length frame.now ≤ FRAME_OCTETS_OUT_MOST }
     ensures extends { Extends result (K.written sink.old) (K.written sink.new) (record_of format (item_with moment frame.now)) }
     ensures later { K.faults sink.old ≤ K.faults sink.new }
     ensures cause { result ≡ Put.Failed → Rose (K.faults sink.old) (K.faults sink.new) }

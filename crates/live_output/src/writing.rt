@@ -12,7 +12,7 @@ use crate::gathered::Gathered;
 use crate::records::put;
 use savi_core::Batch;
 use savi_ends::{Put, Sink};
-use savi_kinds::Format;
+use savi_kinds::{FRAME_OCTETS_OUT_MOST, Format};
 
 /// Writes the records of a batch, one behind the other, in as few writes as there is room to gather them. What was gathered
 /// before is given up. Where a write fails, no further one is made. O(n) in the octets of the batch.
@@ -46,7 +46,7 @@ fn write_record<K: Sink>(
     frame: &[u8],
     gathered: &mut Gathered,
 ) -> Put
-    requires { length frame.now ≤ 1518 }
+    requires { length frame.now ≤ FRAME_OCTETS_OUT_MOST }
     ensures done { result ≡ Put.Done → Holds (K.written sink.old) (K.written sink.new) gathered.new.octets.items (gathered.old.octets.items ++ record_of format (item_with moment frame.now)) }
     ensures part { result ≡ Put.Failed → Extends Put.Failed (K.written sink.old) (K.written sink.new) (gathered.old.octets.items ++ record_of format (item_with moment frame.now)) }
     ensures later { K.faults sink.old ≤ K.faults sink.new }

@@ -8,7 +8,7 @@
 //! memory is served in rounds, by one thread and without a lock. In the end each ring is closed.
 //!
 //! The contract speaks of the segments: they are those of a whole session, the newest is that of the switch that comes back,
-//! and by them each end was served (`specs/Served.antt`, `IsLive` of `live_session`). No RFC is read here.
+//! and by them each end was served (`specs/Endings.antt`, `IsLive` of `live_session`). No RFC is read here.
 #![tactic(auto)]
 
 mod open;

@@ -61,15 +61,18 @@ pub(crate) fn room_for<R: Wait, S: Drop, K: Drop, C: Drop>(
     ensures first { IfOk result (λ room. IsLocked plan room.first) }
 {
     let count = plan.ports.as_slice().len();
-    let seats = seats_of(rt, alloc, &plan)?;
-    let line_seat = line_seat_of(alloc, has_control)?;
-    let signal = signal_of(seats.as_slice(), &line_seat)?;
+    let rings = rings_for(rt, alloc, &plan, has_control)?;
+    let written = room_to_write(alloc)?;
+    let lists = lists_for(alloc, count)?;
     let counts = TurnCounts::make(alloc)?;
-    let reply = Reply::make(alloc)?;
-    let buffer = Buffer::make(alloc, JOURNAL_PIECE_OCTETS)?;
-    let readers = Vec::with_capacity(alloc, count)?;
-    let services = Vec::with_capacity(alloc, count)?;
     let first = lock_new_switch(alloc, plan)?;
+    let Rings {
+        seats,
+        line_seat,
+        signal,
+    } = rings;
+    let (reply, buffer) = written;
+    let (readers, services) = lists;
     Ok(Room {
         seats,
         line_seat,
@@ -81,6 +84,58 @@ pub(crate) fn room_for<R: Wait, S: Drop, K: Drop, C: Drop>(
         services,
         first,
     })
+}
+
+// The seats at the rings of a session, and the signal of a pause.
+#[derive(Drop)]
+struct Rings {
+    seats: Vec<Seat>,
+    line_seat: Option<LineSeat>,
+    signal: PauseSignal,
+}
+
+// The rings of a session of this plan, with control or without. `Err` is want of memory.
+fn rings_for<R: Wait>(
+    rt: &R,
+    alloc: Global,
+    plan: &Plan,
+    has_control: bool,
+) -> Result<Rings, AllocError>
+    requires valid { IsValidPlan plan.now }
+    ensures seats { IfOk result (λ rings. AreSeats plan.now.ports (length plan.now.ports) rings.seats.items) }
+    ensures there { IfOk result (λ rings. is_some rings.line_seat ≡ has_control) }
+    ensures line_seat { IfOk result (λ rings. IfSome rings.line_seat IsLineSeat) }
+{
+    let seats = seats_of(rt, alloc, plan)?;
+    let line_seat = line_seat_of(alloc, has_control)?;
+    let signal = signal_of(seats.as_slice(), &line_seat)?;
+    Ok(Rings {
+        seats,
+        line_seat,
+        signal,
+    })
+}
+
+// Room for a reply, and for what waits for the journal. `Err` is want of memory.
+fn room_to_write(alloc: Global) -> Result<(Reply, Buffer), AllocError>
+    ensures { IfOk result (λ room. room.1 ≡ record { octets = []; room = 131072 }) }
+{
+    let reply = Reply::make(alloc)?;
+    let buffer = Buffer::make(alloc, JOURNAL_PIECE_OCTETS)?;
+    Ok((reply, buffer))
+}
+
+// Room for the readers of so many ports, and for what serves them. `Err` is want of memory.
+fn lists_for<S: Drop, K: Drop, C: Drop>(
+    alloc: Global,
+    count: usize,
+) -> Result<(Vec<Reader<S, C>>, Vec<PortService<K>>), AllocError>
+    ensures readers { IfOk result (λ lists. (lists.0.items ≡ []) × (count ≤ vec_capacity lists.0)) }
+    ensures services { IfOk result (λ lists. (lists.1.items ≡ []) × (count ≤ vec_capacity lists.1)) }
+{
+    let readers = Vec::with_capacity(alloc, count)?;
+    let services = Vec::with_capacity(alloc, count)?;
+    Ok((readers, services))
 }
 
 // The signal that wakes who takes at each ring. `Err` is want of memory.

@@ -57,10 +57,10 @@ module _ (plan : Plan) (base : Base) (past : List Row) where
   counted act octets q of grown = some_over (numbers_of plan.ports) q (queued_at plan base past act octets) of (omega (arith, grown))
 
   -- a queue that has grown by an entry with a frame
-  frame_grown : (q : ℕ) (r : Row) (act : Act) → has_port plan q ≡ true
-      → length (queue plan base q past) < length (framed (room_at plan base past q) q r (probed plan base past act r.octets q (queue plan base q past)))
+  frame_grown : (q : ℕ) (port : Port) (r : Row) (act : Act) → has_port plan q ≡ true
+      → length (queue plan base q past) < length (framed plan (room_at plan base past q) q port r (probed plan base past act r.octets q (queue plan base q past)))
       → (0 < probes plan base past act r.octets) ⊎ (is_member r.entry.outs q ≡ true)
-  frame_grown q r act of grown =
+  frame_grown q port r act of grown =
       elim (cases_Bool (is_member r.entry.outs q)) [
         | inl to ↦ inr to
         | inr off ↦ inl (counted act r.octets q of (rw off at grown))
@@ -71,7 +71,7 @@ module _ (plan : Plan) (base : Base) (past : List Row) where
   input_grown (Frame port stamp octets) entry now ports frame is same may = λ to of grown.
       let row = row_of plan base past (Frame port stamp octets) in
       let more : HasGrown plan base past (row ∷ past) to = subst (λ (rows : List Row). HasGrown plan base past rows to) is grown in
-      let some = frame_grown (number_of to) row row.entry.act of more in
+      let some = frame_grown (number_of to) port row row.entry.act of more in
       may to (subst (λ (e : Entry). (0 < e.probes) ⊎ (is_member e.outs (number_of to) ≡ true)) (sym same) some)
   input_grown (Long port stamp len) entry now ports frame is same may = λ to of grown.
       let row = row_of plan base past (Long port stamp len) in

@@ -6,7 +6,7 @@ ghost use Rattle.std.specs.Prelude.{◌≤◌, List, length, not};
 ghost use Rattle.savi_kinds.specs.declared.entry.Who.TheVariants.{Control, Egress, Ticker};
 ghost use Rattle.hist_store.specs.Rows.{Row};
 ghost use Rattle.savi_history.specs.Legal.{MayEnd};
-ghost use Rattle.savi_core.specs.Steps.{IsClassed, event_of};
+ghost use Rattle.savi_core.specs.Steps.{IsSeenRightly, event_of};
 ghost use Rattle.live_turns.specs.Seats.{IsEndedPass, IsAt, IsRunning, lock_base, lock_plan};
 ghost use Rattle.live_turns.specs.TurnKinds.{DidDrain, DidEnd, DidInput, DidLine, DidLook, DidTick};
 ghost use Rattle.live_turns.specs.TurnKinds.{IsFrame, IsInputPass, ends_egress, ends_ticker, maker_of};
@@ -37,7 +37,7 @@ pub fn frame_turn<R: Wait, G: Gate>(
 ) -> (Turns, bool)
     requires running { IsRunning lock.now (maker_of (event_of event)) turns.pass }
     requires frame { IsFrame (event_of event) }
-    requires class { IsClassed event }
+    requires seen { IsSeenRightly event }
     ensures turned { Turned lock.now (maker_of (event_of event.entry)) turns.pass result.0.pass (DidInput (event_of event.entry) result.1) }
     ensures wakes { Turned lock.now (maker_of (event_of event.entry)) turns.pass result.0.pass (Wakes (DidInput (event_of event.entry) result.1) result.0.woken.items) }
     ensures state { IsAt lock.now (maker_of (event_of event.entry)) (not result.1) result.0.pass }

@@ -9,7 +9,7 @@ ghost use Rattle.savi_history.specs.Limits.{has_room};
 ghost use Rattle.savi_history.specs.Passes.{AllEnded, control_pass, has_pass, ticker_pass};
 ghost use Rattle.savi_history.specs.Replay.{closing};
 ghost use Rattle.savi_core.specs.Machines.{base_of};
-ghost use Rattle.savi_core.specs.Steps.{IsClassed, event_of};
+ghost use Rattle.savi_core.specs.Steps.{IsSeenRightly, event_of};
 ghost use Rattle.live_turns.specs.declared.kinds.TickTurn.TheVariants.{Full, Idle};
 ghost use Rattle.live_turns.specs.Wakes.{HasGrownPorts, MayHaveQueued};
 ghost use Rattle.live_turns.specs.TurnKinds.{DidDrain, DidEnd, DidInput, DidLine, DidLook, DidTick};
@@ -25,7 +25,7 @@ use savi_kinds::{DEPTH_MOST, Entry, How, Port, PortSet, Who};
 pub fn enter_frame(kept: &mut KeptCore, event: Event<'_>) -> (bool, PortSet)
     requires open { IsOpen kept.old.core.value.plan (base_of kept.old.core.value) kept.old.core.value.past (maker_of (event_of event)) }
     requires frame { IsFrame (event_of event) }
-    requires class { IsClassed event }
+    requires seen { IsSeenRightly event }
     ensures plan { kept.new.core.value.plan ≡ kept.old.core.value.plan }
     ensures checkpoint { kept.new.core.value.checkpoint ≡ kept.old.core.value.checkpoint }
     ensures legal { IsLegal kept.old.core.value.plan (base_of kept.old.core.value) kept.old.core.value.past }
@@ -63,7 +63,7 @@ fn maker(event: Event<'_>) -> Who
             port,
             stamp: _,
             octets: _,
-            class: _,
+            seen: _,
         }
         | Event::Long {
             port,

@@ -1,6 +1,7 @@
 -- The captures of a load as inputs.
-use Rattle.std.proofs.Common.{◌≡◌, ℕ, Bool, true, ◌+◌, ◌*◌, ◌%◌, ◌^◌, ◌<◌, ◌≤◌, ◌==◌, List, [], ◌∷◌, length, map, filter, All, refl, ap, ◌∙◌, arith, subst, get_or, length-append, lit<}
+use Rattle.std.proofs.Common.{◌≡◌, ℕ, Bool, true, nat_le, ◌+◌, ◌*◌, ◌%◌, ◌^◌, ◌<◌, ◌≤◌, ◌==◌, List, [], ◌∷◌, length, map, filter, All, refl, ap, ◌∙◌, arith, subst, get_or, length-append, lit<}
 use Rattle.std.specs.List.{range_with_len}
+use Rattle.std.proofs.lemmas.Bool.{cond-true, le-leb}
 use Rattle.std.proofs.lemmas.List.{length-map}
 use Rattle.std.proofs.lemmas.List.Sums.{length-filter, count_by-le-length}
 use Rattle.std.proofs.lemmas.List.FromFn.{length-range_with_len, length-map-range_with_len, get_or-range_with_len}
@@ -8,7 +9,7 @@ use Rattle.std.proofs.lemmas.List.Elements.{All-nil, All-cons, All-head, All-tai
 use Rattle.savi_kinds.specs.declared.entry.How.TheVariants as how
 use Rattle.savi_kinds.specs.declared.address.Mac.{Mac}
 use Rattle.savi_kinds.specs.declared.address.Addr.{Addr}
-use Rattle.savi_kinds.specs.Arrivals.{Arrival, Frame}
+use Rattle.savi_kinds.specs.Arrivals.{Arrival, Frame, Long}
 use Rattle.probe_write.proofs.ProbeReading.{length-probe}
 use Rattle.pcap_io.specs.Captures.{Sent, record_text, records_text, capture_text, arrival_of, AreFrames}
 use Rattle.pcap_io.specs.Kinds.{classic_kinds}
@@ -71,7 +72,10 @@ arrive_as_sent [] fit = refl
 arrive_as_sent (item ∷ items) fit =
     let one : IsFit item = All-head IsFit item items fit in
     let same : item.moment % (1000 * 2 ^ 32) ≡ item.moment = omega (arith, one.moment) in
-    ap (λ (moment : ℕ). Frame moment item.frame ∷ map arrival_of items) same
+    let short : nat_le (length item.frame) 1518 ≡ true = le-leb (length item.frame) 1518 (omega (arith, one.frame)) in
+    let stamp : ℕ = item.moment % (1000 * 2 ^ 32) in
+    ap (λ (a : Arrival). a ∷ map arrival_of items) (cond-true (nat_le (length item.frame) 1518) (Frame stamp item.frame) (Long stamp (length item.frame)) short)
+    ∙ ap (λ (moment : ℕ). Frame moment item.frame ∷ map arrival_of items) same
     ∙ ap (λ (rest : List Arrival). arrival_with item ∷ rest) (arrive_as_sent items (All-tail IsFit item items fit))
 
 -- the capture of any port
@@ -82,7 +86,7 @@ loads_are_inputs seed frames port within =
     let fit : All IsFit items = sent_fits port all (sendings_fit seed frames within) in
     let few : length items ≤ frames + 3 = omega (arith, sent_at_most port all, length-map-range_with_len (drawn_packet seed) 0 frames) in
     let short : length (capture_text items) ≤ 2 ^ 62 = omega (arith, within, few, records_short items fit) in
-    let frames_short : AreFrames items = All-weaker IsFit (λ (item : Sent). length item.frame ≤ 1518) (λ item f. omega (arith, f.frame)) items fit in
+    let frames_short : AreFrames items = All-weaker IsFit (λ (item : Sent). length item.frame ≤ 1522) (λ item f. omega (arith, f.frame)) items fit in
     subst (λ (arrivals : List Arrival). Arrive classic_kinds true (capture_text items) (record { arrivals = arrivals; ending = how.End }))
     (arrive_as_sent items fit)
     (written_arrives classic_kinds items (0, lit< tt, refl) frames_short short)

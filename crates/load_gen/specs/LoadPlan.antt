@@ -1,4 +1,4 @@
--- The plan of a load: hosts at ports 1, 2 and 3, a router at port 4, a DHCPv6 server at port 5.
+-- The plan of a load: hosts at ports 1, 2 and 3, a router at port 4, a DHCPv6 server at port 5, all in VLAN 1.
 use Rattle.std.specs.Prelude.{ℕ, ◌*◌, ◌+◌, ◌^◌, ◌≡◌, true, List, [], ◌∷◌, None, map, codes}
 use Rattle.savi_kinds.specs.declared.plan.Plan.{Plan}
 use Rattle.savi_kinds.specs.declared.plan.PortPlan.{PortPlan}
@@ -7,6 +7,8 @@ use Rattle.savi_kinds.specs.declared.plan.Role.{Role}
 use Rattle.savi_kinds.specs.declared.plan.Role.TheVariants.{Host, Server, Trusted}
 use Rattle.savi_kinds.specs.declared.plan.Format.{Format}
 use Rattle.savi_kinds.specs.declared.plan.Format.TheVariants.{Pcap}
+use Rattle.savi_kinds.specs.declared.plan.Vlan.{Vlan}
+use Rattle.savi_kinds.specs.declared.plan.Vlan.TheVariants.{Access}
 use Rattle.savi_kinds.specs.declared.plan.Method.{Method}
 use Rattle.savi_kinds.specs.declared.plan.Method.TheVariants.{Fcfs, Dhcp, Mixed}
 use Rattle.savi_kinds.specs.Ports.{number_of}
@@ -18,17 +20,36 @@ pub record SaidPort : Type 0 where
   pub format : Format
   pub input : List ℕ
   pub output : List ℕ
+  pub vlan : Vlan
 
 abbrev pub said : PortPlan → SaidPort
-said p = record { number = number_of p.number; role = p.role; format = p.format; input = p.input; output = p.output }
+said p = record {
+  number = number_of p.number;
+  role = p.role;
+  format = p.format;
+  input = p.input;
+  output = p.output;
+  vlan = p.vlan;
+}
 
--- a port whose input and output are captures
+-- an access port of VLAN 1 whose input and output are captures
 abbrev pub captured : ℕ → Role → List ℕ → List ℕ → SaidPort
-captured number role input output = record { number = number; role = role; format = Pcap; input = input; output = output }
+captured number role input output = record {
+  number = number;
+  role = role;
+  format = Pcap;
+  input = input;
+  output = output;
+  vlan = Access 1;
+}
 
--- 2001:db8:N::/64
+-- 2001:db8:N::/64, in VLAN 1
 abbrev pub site : ℕ → Method → PrefixPlan
-site n method = record { prefix = record { net = record { 0 = 0x20010db8 * 2 ^ 96 + n * 2 ^ 80 }; len = 64 }; method = method }
+site n method = record {
+  prefix = record { net = record { 0 = 0x20010db8 * 2 ^ 96 + n * 2 ^ 80 }; len = 64 };
+  method = method;
+  vlan = 1;
+}
 
 abbrev pub load_ports : List SaidPort
 load_ports =

@@ -5,8 +5,8 @@ ghost use Rattle.savi_kinds.specs.ValidPlan.{IsValidPlan};
 ghost use Rattle.load_gen.specs.LoadPlan.{IsLoadPlan, said, captured, site, load_ports, load_prefixes};
 
 use savi_kinds::{
-    Addr, Format, Mac, Method, Plan, Port, PortPlan, PortPlans, Prefix, PrefixPlan, PrefixPlans,
-    Role, Text,
+    Addr, DEFAULT_VLAN, Format, Mac, Method, Plan, Port, PortPlan, PortPlans, Prefix, PrefixPlan,
+    PrefixPlans, Role, Text, Vlan,
 };
 use std::alloc::{AllocError, Global};
 
@@ -48,7 +48,7 @@ fn ports(alloc: Global) -> Result<PortPlans, AllocError>
     Ok(PortPlans::new(ports))
 }
 
-// A port whose input and output are captures.
+// An access port of VLAN 1 whose input and output are captures.
 fn port(
     alloc: Global,
     number: u8,
@@ -69,6 +69,7 @@ fn port(
         format: Format::Pcap,
         input: Text::new(String::from_str(alloc, input)?),
         output: Text::new(String::from_str(alloc, output)?),
+        vlan: Vlan::Access(DEFAULT_VLAN),
     })
 }
 
@@ -82,7 +83,7 @@ fn prefixes(alloc: Global) -> Result<PrefixPlans, AllocError>
     Ok(PrefixPlans::new(prefixes))
 }
 
-// 2001:db8:N::/64.
+// 2001:db8:N::/64, in VLAN 1.
 fn site(n: u8, method: Method) -> PrefixPlan
     ensures { result ≡ site n method }
 {
@@ -92,5 +93,6 @@ fn site(n: u8, method: Method) -> PrefixPlan
             len: 64,
         },
         method,
+        vlan: DEFAULT_VLAN,
     }
 }

@@ -5,7 +5,7 @@ use Rattle.std.proofs.lemmas.List.Elements.{All-push}
 use Rattle.savi_kinds.specs.declared.plan.PortPlan.{PortPlan}
 use Rattle.savi_kinds.specs.declared.port.Port.{Port}
 use Rattle.port_worker.specs.Replays.{ports_held}
-use Rattle.load_run.specs.LoadEnds.{LoadEnds, IsFresh, octets_at}
+use Rattle.load_run.specs.LoadEnds.{LoadEnds, IsFresh, octets_left}
 
 abbrev pub numbers : List PortPlan → List Port
 numbers ports = map (λ p. p.number) ports
@@ -16,17 +16,17 @@ items_of v = v.items
 -- these captures are held at the first ports
 pub record AreHeld (ports : List PortPlan) (captures : List (Vec ℕ Global)) (held : List LoadEnds) : Type 0 where
   pub ports_same : ports_held held ≡ take (length captures) (numbers ports)
-  pub octets : map octets_at held ≡ map items_of captures
+  pub octets : map octets_left held ≡ map items_of captures
   pub fresh : All IsFresh held
 
 pub as_many : (ports : List PortPlan) (captures : List (Vec ℕ Global)) (held : List LoadEnds) → AreHeld ports captures held → length held ≡ length captures
-as_many ports captures held are = sym (length-map held octets_at) ∙ ap length are.octets ∙ length-map captures items_of
+as_many ports captures held are = sym (length-map held octets_left) ∙ ap length are.octets ∙ length-map captures items_of
 
 pub none_held : (ports : List PortPlan) (held : List LoadEnds) → held ≡ [] → AreHeld ports [] held
 none_held ports held none = rw none (record { ports_same = refl; octets = refl; fresh = λ k d inside. absurd (omega arith) })
 
 pub one_more_held : (ports : List PortPlan) (captures : List (Vec ℕ Global)) (held held' : List LoadEnds) (capture : Vec ℕ Global) (port : PortPlan) (n : ℕ) (p : LoadEnds)
-    → AreHeld ports captures held → n ≡ length held → n < length ports → port ≡ get_or ports n port → p.port ≡ port.number → octets_at p ≡ capture.items → IsFresh p → held' ≡ held ++ p ∷ []
+    → AreHeld ports captures held → n ≡ length held → n < length ports → port ≡ get_or ports n port → p.port ≡ port.number → octets_left p ≡ capture.items → IsFresh p → held' ≡ held ++ p ∷ []
     → AreHeld ports (captures ++ capture ∷ []) held'
 one_more_held ports captures held held' capture port n p are number inside here at octets fresh pushed =
     let place : length captures ≡ n = sym (number ∙ as_many ports captures held are) in
@@ -42,8 +42,8 @@ one_more_held ports captures held held' capture port n p are number inside here 
           ∙ sym (take_more (numbers ports) n port.number within)
           ∙ ap (λ (k : ℕ). take k (numbers ports)) (sym more);
       octets =
-          map-append octets_at held (p ∷ [])
-          ∙ ap (λ (l : List (List ℕ)). l ++ octets_at p ∷ []) are.octets
+          map-append octets_left held (p ∷ [])
+          ∙ ap (λ (l : List (List ℕ)). l ++ octets_left p ∷ []) are.octets
           ∙ ap (λ (o : List ℕ). map items_of captures ++ o ∷ []) octets
           ∙ sym (map-append items_of captures (capture ∷ []));
       fresh = All-push IsFresh held p are.fresh fresh;

@@ -33,7 +33,7 @@ use Rattle.savi_core.specs.Machines.{port_number_at}
 use Rattle.port_worker.specs.declared.control_ends.ControlEnds.{ControlEnds}
 use Rattle.port_worker.specs.ControlServed.{ServesControl}
 use Rattle.port_worker.specs.Served.{IsInputOf, IsServed, ServesEnds}
-use Rattle.load_run.specs.LoadEnds.{LoadEnds, IsFresh, octets_at}
+use Rattle.load_run.specs.LoadEnds.{LoadEnds, IsFresh, octets_left}
 use Rattle.load_run.specs.LoadHistory.{input_at, load_inputs, load_segments, no_stops}
 use Rattle.load_run.proofs.Holding.{items_of}
 use Rattle.load_run.proofs.Unstopped.{replayed_unstopped}
@@ -80,23 +80,23 @@ no_lines None plan segments (Some input) stop is = absurd is
 no_lines (Some new) plan segments lines stop is = absurd is
 
 module _ (plan : Plan) (seed frames : ℕ) (segments : List (List Row)) (control_new : Option (ControlEnds SureSource CountSink MemClock)) (old new : List LoadEnds)
-    (ports : map said plan.ports ≡ load_ports) (within : frames ≤ 2 ^ 32) (fresh : All IsFresh old) (octets : map octets_at old ≡ captures_of (sendings seed frames))
+    (ports : map said plan.ports ≡ load_ports) (within : frames ≤ 2 ^ 32) (fresh : All IsFresh old) (octets : map octets_left old ≡ captures_of (sendings seed frames))
     (served : ServesEnds {S = SureSource} {K = CountSink} {C = MemClock} (λ s. Some (sure_left s)) (λ k. None) (λ s. 0) (λ k. 0) plan segments None control_new old new) where
   five_ports : length plan.ports ≡ 5
   five_ports = sym (length-map plan.ports said) ∙ ap length ports
 
   five_ends : length old ≡ 5
   unfolding captures_of
-  five_ends = sym (length-map old octets_at) ∙ ap length octets
+  five_ends = sym (length-map old octets_left) ∙ ap length octets
 
-  capture_at : (k : ℕ) (d : LoadEnds) → k < 5 → octets_at (get_or old k d) ≡ capture_text (sent_at (get_or numbers_five k 0) (sendings seed frames))
+  capture_at : (k : ℕ) (d : LoadEnds) → k < 5 → octets_left (get_or old k d) ≡ capture_text (sent_at (get_or numbers_five k 0) (sendings seed frames))
   unfolding captures_of
   capture_at k d inside =
       let all : List Sending = sendings seed frames in
       let here : k < length old = omega (arith, inside, five_ends) in
-      sym (get_or-map octets_at old k d (octets_at d) here)
-      ∙ ap (λ (l : List (List ℕ)). get_or l k (octets_at d)) octets
-      ∙ get_or-map (λ (port : ℕ). capture_text (sent_at port all)) numbers_five k 0 (octets_at d) inside
+      sym (get_or-map octets_left old k d (octets_left d) here)
+      ∙ ap (λ (l : List (List ℕ)). get_or l k (octets_left d)) octets
+      ∙ get_or-map (λ (port : ℕ). capture_text (sent_at port all)) numbers_five k 0 (octets_left d) inside
 
   -- some ends, to name those at a place
   some_ends : LoadEnds
@@ -118,11 +118,11 @@ module _ (plan : Plan) (seed frames : ℕ) (segments : List (List Row)) (control
       let got : Input = get_or served.inputs k i in
       let ended_so : Option How = input_end (port_number_at plan k) (unbroken segments) in
       let after : Option (List ℕ) = Some (sure_left (get_or new k some_ends).ends.source) in
-      let gave : IsInputOf (Arrive classic_kinds) (Some (octets_at p)) after ended_so got.arrivals got.ending =
-      subst (λ (r : State). IsInputOf (Comes r) (Some (octets_at p)) after ended_so got.arrivals got.ending) anew one.gave in
-      let arrive : Arrive classic_kinds true (octets_at p) (input_at port (sendings seed frames)) =
+      let gave : IsInputOf (Arrive classic_kinds) (Some (octets_left p)) after ended_so got.arrivals got.ending =
+      subst (λ (r : State). IsInputOf (Comes r) (Some (octets_left p)) after ended_so got.arrivals got.ending) anew one.gave in
+      let arrive : Arrive classic_kinds true (octets_left p) (input_at port (sendings seed frames)) =
       subst (λ (o : List ℕ). Arrive classic_kinds true o (input_at port (sendings seed frames))) (sym (capture_at k some_ends inside)) (loads_are_inputs seed frames port within) in
-      input_of (octets_at p) after ended_so (input_at port (sendings seed frames)) got.arrivals got.ending arrive (λ failed. never_rose (one.broken failed)) gave
+      input_of (octets_left p) after ended_so (input_at port (sendings seed frames)) got.arrivals got.ending arrive (λ failed. never_rose (one.broken failed)) gave
 
   inputs_are : served.inputs ≡ load_inputs seed frames
   unfolding load_inputs

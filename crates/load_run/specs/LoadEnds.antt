@@ -14,8 +14,8 @@ abbrev pub LoadEnds : Type 0
 LoadEnds = PortEnds SureSource CountSink MemClock
 
 -- what the source has left
-abbrev pub octets_at : LoadEnds → List ℕ
-octets_at p = sure_left p.ends.source
+abbrev pub octets_left : LoadEnds → List ℕ
+octets_left p = sure_left p.ends.source
 
 -- nothing was read yet, and the input is read from its header on, of any classic kind
 pub record IsFresh (p : LoadEnds) : Type 0 where

@@ -2,7 +2,7 @@
 
 ghost use Rattle.std.specs.Prelude.{◌≡◌, IfOk, All, length, map};
 ghost use Rattle.port_worker.specs.Replays.{ports_held};
-ghost use Rattle.load_run.specs.LoadEnds.{IsFresh, octets_at};
+ghost use Rattle.load_run.specs.LoadEnds.{IsFresh, octets_left};
 
 use pcap_io::PcapReader;
 use port_worker::PortEnds;
@@ -23,7 +23,7 @@ pub(crate) fn ends_of(
 ) -> Result<Vec<LoadEnds>, AllocError>
     requires { length captures.items ≡ length ports.now }
     ensures ports { IfOk result (λ held. ports_held held.items ≡ map (λ p. p.number) ports.now) }
-    ensures octets { IfOk result (λ held. map octets_at held.items ≡ map (λ c. c.items) captures.items) }
+    ensures octets { IfOk result (λ held. map octets_left held.items ≡ map (λ c. c.items) captures.items) }
     ensures fresh { IfOk result (λ held. All IsFresh held.items) }
 {
     let mut held = Vec::with_capacity(alloc, ports.len())?;
@@ -37,7 +37,7 @@ pub(crate) fn ends_of(
 // The ends of a port with this capture.
 fn end_of(alloc: Global, port: Port, octets: Vec<u8>) -> LoadEnds
     ensures port { result.port ≡ port }
-    ensures octets { octets_at result ≡ octets.items }
+    ensures octets { octets_left result ≡ octets.items }
     ensures fresh { IsFresh result }
 {
     let ends = Ends {

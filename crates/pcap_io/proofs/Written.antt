@@ -1,11 +1,13 @@
 -- What is written is read again.
-use Rattle.std.proofs.Common.{◌≡◌, ℕ, suc, ◌+◌, ◌*◌, ◌/◌, ◌%◌, ◌^◌, ◌<◌, ◌≤◌, true, List, [], ◌∷◌, ◌++◌, length, map, Contains, inl, refl, arith, length-append}
+use Rattle.std.proofs.Common.{◌≡◌, ℕ, suc, ◌+◌, ◌*◌, ◌/◌, ◌%◌, ◌^◌, ◌<◌, ◌≤◌, nat_le, true, List, [], ◌∷◌, ◌++◌, length, map, Contains, inl, refl, arith, length-append}
+use Rattle.std.proofs.lemmas.Bool.{cond_both, leb-true, leb-false}
 use Rattle.std.proofs.lemmas.Nat.{from_le_bytes-to_le_bytes_4}
 use Rattle.std.specs.Int.{w32, to_le_bytes, from_le_bytes}
 use Rattle.savi_kinds.specs.declared.entry.How.TheVariants as how
+use Rattle.savi_kinds.specs.Arrivals.{Frame, Long}
 use Rattle.pcap_io.specs.declared.kind.HeaderKind.{HeaderKind}
 use Rattle.pcap_io.specs.Kinds.{IsHeader, little_microseconds}
-use Rattle.pcap_io.specs.Records.{captured_of, stamp_of, IsRecordOf}
+use Rattle.pcap_io.specs.Records.{captured_of, stamp_of, IsRecord, IsRecordOf}
 use Rattle.pcap_io.specs.Runs.{IsRun, Arrive}
 use Rattle.pcap_io.specs.Captures.{Sent, header_text, record_text, records_text, capture_text, arrival_of, AreFrames}
 use Rattle.pcap_io.proofs.Fronts.{take_front, drop_front}
@@ -20,7 +22,7 @@ record_text_size moment frame = omega arith
 number_again : (n : ℕ) → n < 2 ^ 32 → from_le_bytes w32 (to_le_bytes w32 n) ≡ n
 number_again n fits = from_le_bytes-to_le_bytes_4 n fits
 
-captured_again : (moment : ℕ) (frame : List ℕ) → length frame ≤ 1518 → captured_of little_microseconds (record_text moment frame) ≡ length frame
+captured_again : (moment : ℕ) (frame : List ℕ) → length frame ≤ 1522 → captured_of little_microseconds (record_text moment frame) ≡ length frame
 captured_again moment frame short = number_again (length frame) (omega arith)
 
 -- a moment modulo 2^32 seconds, by its seconds and the milliseconds behind them
@@ -33,12 +35,19 @@ stamp_again moment frame =
     let microseconds = number_again (1000 * (moment % 1000)) (omega arith) in
     rw (seconds, microseconds) (moment_parts moment)
 
-record_is : (item : Sent) → length item.frame ≤ 1518 → IsRecordOf little_microseconds (record_text item.moment item.frame) (arrival_of item)
-record_is item short = (
-  record { size = record_text_size item.moment item.frame; captured = captured_again item.moment item.frame short; seen = stamp_again item.moment item.frame },
-  short,
-  refl,
-)
+record_is : (item : Sent) → length item.frame ≤ 1522 → IsRecordOf little_microseconds (record_text item.moment item.frame) (arrival_of item)
+record_is item short =
+    let octets : List ℕ = record_text item.moment item.frame in
+    let stamp : ℕ = item.moment % (1000 * 2 ^ 32) in
+    let size : ℕ = length item.frame in
+    let is : IsRecord little_microseconds octets stamp size = record {
+      size = record_text_size item.moment item.frame;
+      captured = captured_again item.moment item.frame short;
+      seen = stamp_again item.moment item.frame;
+    } in
+    cond_both (nat_le size 1518) (Frame stamp item.frame) (Long stamp size) (IsRecordOf little_microseconds octets)
+    (λ frame. (is, leb-true size 1518 frame, refl))
+    (λ long. (is, leb-false size 1518 long, omega (arith, short)))
 
 run_is : (items : List Sent) (place : ℕ) → AreFrames items → place + length (records_text items) ≤ 2 ^ 62 → IsRun little_microseconds true place (map arrival_of items) how.End (records_text items)
 run_is [] place frames within = (refl, refl)

@@ -1,7 +1,7 @@
 -- The text of a capture that is written: little-endian, with microseconds.
 use Rattle.std.specs.Prelude.{ℕ, ◌*◌, ◌/◌, ◌%◌, ◌^◌, ◌≤◌, List, [], ◌∷◌, ◌++◌, length, All}
 use Rattle.std.specs.Int.{w16, w32, to_le_bytes}
-use Rattle.savi_kinds.specs.Arrivals.{Arrival, Frame}
+use Rattle.savi_kinds.specs.Arrivals.{Arrival, arrival_at}
 
 -- a frame and the moment (ms) at which it is sent
 pub record Sent : Type 0 where
@@ -36,8 +36,8 @@ capture_text items = header_text ++ records_text items
 
 -- a written frame as it is read again: its moment comes back modulo 2^32 seconds
 abbrev pub arrival_of : Sent → Arrival
-arrival_of item = Frame (item.moment % (1000 * 2 ^ 32)) item.frame
+arrival_of item = arrival_at (item.moment % (1000 * 2 ^ 32)) item.frame
 
--- no frame is longer than a frame may be
+-- no frame is longer than one that goes out may be: as long as one that comes in, and a tag
 abbrev pub AreFrames : List Sent → Type 0
-AreFrames items = All (λ item. length item.frame ≤ 1518) items
+AreFrames items = All (λ item. length item.frame ≤ 1522) items

@@ -22,8 +22,9 @@ pub fn front_arrives()
     ensures { (kinds : List HeaderKind) (ends seen : Bool) (octets more : List ℕ) (part whole : Input) → Arrive kinds ends octets part → Arrive kinds seen (octets ++ more) whole → (later : List Arrival) × (whole.arrivals ≡ part.arrivals ++ later) }
 {}
 
-/// Law: what the writer wrote is read again as the same frames, by every reader that accepts its header.
-/// The capture is no longer than an input may be, 2^62 octets.
+/// Law: what the writer wrote is read again as the same frames, by every reader that accepts its header; a frame
+/// that is longer than one that comes in may be is read as a long one. The capture is no longer than an input may
+/// be, 2^62 octets.
 pub fn captures_are_read_again()
     ensures { (kinds : List HeaderKind) (items : List Sent) → Contains kinds little_microseconds → AreFrames items → length (capture_text items) ≤ 2 ^ 62 → Arrive kinds true (capture_text items) (record { arrivals = map arrival_of items; ending = how.End }) }
 {}

@@ -6,10 +6,10 @@ ghost use Rattle.pcap_io.specs.Captures.{header_text, record_text};
 
 use arrayvec::ArrayVec;
 use savi_ends::{Put, Sink};
-use savi_kinds::FRAME_OCTETS_MOST;
+use savi_kinds::FRAME_OCTETS_OUT_MOST;
 
-/// The octets of the longest record of a frame: 16 and 1,518.
-const RECORD_OCTETS_MOST: usize = 1_534;
+/// The octets of the longest record of a frame: 16 and 1,522.
+const RECORD_OCTETS_MOST: usize = 1_538;
 
 /// The header of a capture that is written (libpcap savefile format): little-endian, microseconds,
 /// version 2.4, a snaplen of 65,535, Ethernet.
@@ -33,11 +33,12 @@ pub fn begin<K: Sink>(sink: &mut K) -> Put
     sink.write(&HEADER)
 }
 
-/// Writes the record of a frame that is sent at this moment (ms), in one write of the sink.
+/// Writes the record of a frame that is sent at this moment (ms), in one write of the sink. The frame has at most 1,522
+/// octets: those of the longest that comes in, and a tag.
 ///
 /// The seconds are written modulo 2^32. O(n) in the octets of the frame.
 pub fn put<K: Sink>(sink: &mut K, moment: u64, frame: &[u8]) -> Put
-    requires { length frame.now ≤ 1518 }
+    requires { length frame.now ≤ FRAME_OCTETS_OUT_MOST }
     ensures extends { Extends result (K.written sink.old) (K.written sink.new) (record_text moment frame.now) }
     ensures later { K.faults sink.old ≤ K.faults sink.new }
     ensures cause { result ≡ Put.Failed → Rose (K.faults sink.old) (K.faults sink.new) }
@@ -49,7 +50,7 @@ pub fn put<K: Sink>(sink: &mut K, moment: u64, frame: &[u8]) -> Put
 
 // The octets of the record of a frame.
 fn record_of(moment: u64, frame: &[u8]) -> ArrayVec<u8, RECORD_OCTETS_MOST>
-    requires { length frame.now ≤ 1518 }
+    requires { length frame.now ≤ FRAME_OCTETS_OUT_MOST }
     ensures { result.items ≡ record_text moment frame.now }
 {
     let seconds = (moment / MS_PER_SECOND % SECONDS_END) as u32;
@@ -66,7 +67,7 @@ fn record_of(moment: u64, frame: &[u8]) -> ArrayVec<u8, RECORD_OCTETS_MOST>
 
 // Adds octets for which there is room.
 fn add(text: &mut ArrayVec<u8, RECORD_OCTETS_MOST>, octets: &[u8])
-    requires { array_vec_len text.old + length octets.now ≤ 1534 }
+    requires { array_vec_len text.old + length octets.now ≤ RECORD_OCTETS_MOST }
     ensures { text.new.items ≡ text.old.items ++ octets.now }
 {
     match text.try_extend_from_slice(octets) {

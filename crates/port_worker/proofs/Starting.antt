@@ -27,7 +27,7 @@ use Rattle.savi_history.proofs.Waiting.{ended_now, ended_other, ended_begun, emp
 use Rattle.savi_history.proofs.PortInputs.{HoldsSame, same_begun, same_control}
 use Rattle.savi_segments.specs.Replay.{Run, base_in, has_ended_in, run_begun, run_with}
 use Rattle.savi_segments.proofs.Reaching.{Done, Agrees, Reaches, joined}
-use Rattle.savi_core.specs.Machines.{Machine, base_of, started}
+use Rattle.savi_core.specs.Machines.{Machine, base_of, started, station_room}
 use Rattle.savi_core.proofs.Leaving.{start_is}
 use Rattle.port_worker.specs.declared.control_ends.ControlEnds.{ControlEnds}
 use Rattle.port_worker.specs.declared.control_ends.LineAhead.{LineAhead}
@@ -116,7 +116,7 @@ opened_plain plan before (Some c) none = none
 
 -- a switch at its start goes on from nothing
 pub started_empty : (plan : Plan) → base_of (started plan) ≡ empty
-started_empty plan = start_is (16 * plan.per_port) (256 * 16)
+started_empty plan = start_is (16 * plan.per_port) (station_room plan)
 
 pub opened_machine : {S K C : Type 0} (m : Machine) → base_of m ≡ empty → (ends : Option (ControlEnds S K C)) → (unheard m ends).past ≡ opened m.plan m.past ends
 opened_machine m base_is None = ap (λ (b : Base). with_event m.plan b m.past (End Control hows.End)) base_is

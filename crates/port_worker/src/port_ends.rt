@@ -2,7 +2,7 @@
 
 ghost use Rattle.std.specs.Prelude.{◌≡◌, true, false, IsSome, IfSome, Some};
 
-use frame_class::class;
+use frame_class::seen;
 use pcap_io::PcapReader;
 use savi_core::{Core, Event};
 use savi_ends::{Clock, Ends, Source};
@@ -192,12 +192,12 @@ impl<S, K, C> PortEnds<S, K, C> {
         match self.ahead {
             Ahead::Frame { stamp, len } => {
                 let octets = &self.buf[..len as usize];
-                let class = class(octets);
+                let seen = seen(octets);
                 let _entry = core.step(Event::Frame {
                     port: self.port,
                     stamp,
                     octets,
-                    class: &class,
+                    seen: &seen,
                 });
                 self.ahead = Ahead::Unread;
                 true

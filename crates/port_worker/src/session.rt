@@ -102,10 +102,10 @@ fn room_for(alloc: Global, plan: Plan) -> Result<(Core, Batch, Reply, Buffer), A
     requires { IsValidPlan plan }
     ensures { IfOk result (λ room. (room.0 ≡ started plan) × (room.3 ≡ record { octets = []; room = 131072 })) }
 {
-    let core = Core::make(alloc, plan)?;
     let batch = Batch::make(alloc)?;
     let reply = Reply::make(alloc)?;
     let buffer = Buffer::make(alloc, JOURNAL_PIECE_OCTETS)?;
+    let core = Core::make(alloc, plan)?;
     Ok((core, batch, reply, buffer))
 }
 

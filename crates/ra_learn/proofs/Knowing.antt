@@ -8,9 +8,9 @@ use Rattle.savi_kinds.specs.declared.plan.PortPlan.{PortPlan}
 use Rattle.savi_kinds.specs.declared.port.PortSet.{PortSet}
 use Rattle.savi_kinds.specs.Ports.{number_of}
 use Rattle.savi_kinds.specs.PortSets.{is_member, with_member}
-use Rattle.savi_kinds.specs.ValidPlan.{nets_of}
 use Rattle.savi_kinds.proofs.Members.{is_member-with}
 use Rattle.ra_learn.specs.Carried.{Carried, carried}
+use Rattle.ra_learn.specs.Link.{link_nets, link_ports}
 use Rattle.ra_learn.specs.Sightings.{Sighting, Heard, first_moment, good_advert}
 use Rattle.ra_learn.specs.Guarding.{trusts, is_acceptable, is_window_open, is_early_at, early_adverts, guard_at, is_forwarding, passed, answer}
 use Rattle.ra_learn.specs.Printed.{guard_line, port_state_line, learned_port_line, learned_lines, known_lines}
@@ -40,7 +40,7 @@ early_some window one past n heard some =
 -- the same, where nothing is told yet
 pub record KnowsPorts (plan : Plan) (window : ℕ) (past : List Sighting) (learned : Learned) : Type 0 where
   pub trusted : (n : ℕ) → 1 ≤ n → is_member learned.trusted n ≡ trusts plan n
-  pub nets : learned.nets ≡ nets_of plan.prefixes
+  pub nets : learned.nets ≡ link_nets plan.prefixes
   pub length : learned.window ≡ window
   pub first : learned.first ≡ first_moment past
   pub heard : (n : ℕ) → 1 ≤ n → is_member learned.heard n ≡ is_some (slice_get (early_adverts window past n) 0)
@@ -153,6 +153,6 @@ flat_map_agree f g same (x ∷ xs) = rw (same x, flat_map_agree f g same xs) ref
 -- what is put of a learner is what is known
 pub lines_known : (plan : Plan) (window : ℕ) (past : List Sighting) (learned : Learned) (moment : ℕ) → HasLearned plan window past learned → learned_lines learned plan.ports moment ≡ known_lines plan window past moment
 lines_known plan window past learned moment knows =
-    let ports : flat_map (learned_port_line learned moment) plan.ports ≡ flat_map (port_state_line plan window past moment) plan.ports =
-    flat_map_agree (learned_port_line learned moment) (port_state_line plan window past moment) (λ (p : PortPlan). ap (guard_line (number_of p.number)) (state_is (ports_of knows) (number_of p.number) moment p.number.low)) plan.ports in
+    let ports : flat_map (learned_port_line learned moment) (link_ports plan.ports) ≡ flat_map (port_state_line plan window past moment) (link_ports plan.ports) =
+    flat_map_agree (learned_port_line learned moment) (port_state_line plan window past moment) (λ (p : PortPlan). ap (guard_line (number_of p.number)) (state_is (ports_of knows) (number_of p.number) moment p.number.low)) (link_ports plan.ports) in
     rw (ports, knows.tables) refl

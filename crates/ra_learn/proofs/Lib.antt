@@ -5,4 +5,5 @@ pub mod Rows
 pub mod Adverts
 pub mod Frames
 pub mod Knowing
+pub mod OnLink
 pub mod Limits

@@ -10,11 +10,11 @@ use Rattle.savi_kinds.specs.declared.plan.PortPlan.{PortPlan}
 use Rattle.savi_kinds.specs.declared.plan.Role.{Role}
 use Rattle.savi_kinds.specs.declared.plan.Role.TheVariants as roles
 use Rattle.savi_kinds.specs.Ports.{number_of}
-use Rattle.savi_kinds.specs.ValidPlan.{nets_of}
 use Rattle.ra_learn.specs.declared.advert.Ra.{Ra}
 use Rattle.ra_learn.specs.declared.guard.Guard.{Guard}
 use Rattle.ra_learn.specs.declared.guard.Guard.TheVariants.{Learning, Blocking, Forwarding}
 use Rattle.ra_learn.specs.Carried.{carried}
+use Rattle.ra_learn.specs.Link.{link_nets}
 use Rattle.ra_learn.specs.Sightings.{Sighting, Heard, first_moment, good_advert}
 
 -- a port whose plan says that it is trusted
@@ -42,9 +42,9 @@ is_among nets p = list_any (same_prefix p) nets
 abbrev pub names_known : List Prefix → Ra → Bool
 names_known nets ra = list_all (λ a. is_among nets a.prefix) ra.prefixes.items
 
--- an advertisement is acceptable at a trusted port, and at another where each of its prefixes is one of the plan's
+-- an advertisement is acceptable at a trusted port, and at another where each of its prefixes is one of the link's
 abbrev pub is_acceptable : Plan → ℕ → Heard → Bool
-is_acceptable plan number heard = trusts plan number || names_known (nets_of plan.prefixes) heard.ra
+is_acceptable plan number heard = trusts plan number || names_known (link_nets plan.prefixes) heard.ra
 
 -- the window that began then is still open at this moment
 abbrev pub is_window_open : ℕ → Option ℕ → ℕ → Bool

@@ -7,16 +7,16 @@ use Rattle.savi_kinds.specs.declared.port.Port.{Port}
 use Rattle.savi_kinds.specs.declared.port.PortSet.{PortSet}
 use Rattle.savi_kinds.specs.Ports.{number_of}
 use Rattle.savi_kinds.specs.PortSets.{is_member, with_member}
-use Rattle.savi_kinds.specs.ValidPlan.{nets_of}
 use Rattle.ra_learn.specs.declared.advert.Ra.{Ra}
 use Rattle.ra_learn.specs.declared.guard.Guard.{Guard}
 use Rattle.ra_learn.specs.declared.guard.Guard.TheVariants.{Learning, Blocking, Forwarding}
+use Rattle.ra_learn.specs.Link.{link_nets}
 use Rattle.ra_learn.specs.Sightings.{Sighting, Heard, first_moment}
 use Rattle.ra_learn.specs.Guarding.{trusts, names_known, is_acceptable, is_window_open, early_adverts, is_forwarding}
 use Rattle.ra_learn.specs.Tables.{Tables, told_at, learned_tables}
 
 pub record Learned : Type 0 where
-  -- the trusted ports, the plan's prefixes, and the length of the window (ms)
+  -- the trusted ports, the prefixes of the link, and the length of the window (ms)
   pub trusted : PortSet
   pub nets : List Prefix
   pub window : ℕ
@@ -68,7 +68,7 @@ begun_at t learned = record learned { first = Some (unwrap_or learned.first t) }
 -- what is kept is what this plan, this window and all that was seen come to
 pub record HasLearned (plan : Plan) (window : ℕ) (past : List Sighting) (learned : Learned) : Type 0 where
   pub trusted : (n : ℕ) → 1 ≤ n → is_member learned.trusted n ≡ trusts plan n
-  pub nets : learned.nets ≡ nets_of plan.prefixes
+  pub nets : learned.nets ≡ link_nets plan.prefixes
   pub length : learned.window ≡ window
   pub first : learned.first ≡ first_moment past
   pub heard : (n : ℕ) → 1 ≤ n → is_member learned.heard n ≡ is_some (slice_get (early_adverts window past n) 0)

@@ -1,6 +1,7 @@
 pub mod PrefixOptions
 pub mod RouterAdverts
 pub mod Carried
+pub mod Link
 pub mod Ordered
 pub mod Sightings
 pub mod Guarding

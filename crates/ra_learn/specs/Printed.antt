@@ -1,6 +1,6 @@
 -- What learning from captures prints: a line for each advertisement, and then what is known at the last moment. It is a
 -- function of the plan, the window and all arrivals, the newest first, each at its port.
-use Rattle.std.specs.Prelude.{ℕ, ◌^◌, min, max, Bool, true, false, List, [], ◌∷◌, ◌++◌, flat_map, Option, Some, None, codes, decimal}
+use Rattle.std.specs.Prelude.{ℕ, ◌^◌, min, max, Bool, true, false, if◌then◌else◌, List, [], ◌∷◌, ◌++◌, flat_map, Option, Some, None, codes, decimal}
 use Rattle.savi_kinds.specs.declared.port.Port.{Port}
 use Rattle.savi_kinds.specs.declared.plan.Plan.{Plan}
 use Rattle.savi_kinds.specs.declared.plan.PortPlan.{PortPlan}
@@ -12,6 +12,7 @@ use Rattle.ra_learn.specs.declared.guard.Guard.{Guard}
 use Rattle.ra_learn.specs.declared.guard.Guard.TheVariants.{Learning, Blocking, Forwarding}
 use Rattle.ra_learn.specs.declared.routers.Router.{Router}
 use Rattle.ra_learn.specs.declared.prefixes.LinkPrefix.{LinkPrefix}
+use Rattle.ra_learn.specs.Link.{link_ports, is_on_link}
 use Rattle.ra_learn.specs.Sightings.{Sighting}
 use Rattle.ra_learn.specs.Guarding.{guard_at, answer}
 use Rattle.ra_learn.specs.Learned.{Learned, state_of}
@@ -35,15 +36,17 @@ abbrev pub last_moment : List PortArrival → ℕ
 last_moment [] = 0
 last_moment (newest ∷ past) = moment_at (last_moment past) (stamp_of newest.arrival)
 
--- what is seen of an arrival at this moment: a frame of at most 1,518 octets
-abbrev pub with_seen : Port → ℕ → Arrival → List Sighting → List Sighting
-with_seen port moment (Frame stamp octets) seen = record { port = port; moment = moment; octets = octets } ∷ seen
-with_seen port moment (Long stamp len) seen = seen
+-- what is seen of an arrival at this moment, at a port of the link or at another one: a frame of at most 1,518 octets
+abbrev pub with_seen : Bool → Port → ℕ → Arrival → List Sighting → List Sighting
+with_seen on_link port moment (Frame stamp octets) seen =
+    if on_link then record { port = port; moment = moment; octets = octets } ∷ seen else seen
+with_seen on_link port moment (Long stamp len) seen = seen
 
--- what is seen of all arrivals
-abbrev pub seen_of : List PortArrival → List Sighting
-seen_of [] = []
-seen_of (newest ∷ past) = with_seen newest.port (last_moment (newest ∷ past)) newest.arrival (seen_of past)
+-- what is seen of all arrivals at the ports of a plan
+abbrev pub sightings_of : Plan → List PortArrival → List Sighting
+sightings_of plan [] = []
+sightings_of plan (newest ∷ past) =
+    with_seen (is_on_link plan (number_of newest.port)) newest.port (last_moment (newest ∷ past)) newest.arrival (sightings_of plan past)
 
 -- words with a space between each two, and a line feed behind them
 abbrev pub words_line : List (List ℕ) → List ℕ
@@ -103,10 +106,10 @@ abbrev pub table_lines : ℕ → Tables → List ℕ
 table_lines moment tables =
     flat_map router_line (routers_at moment tables.routers) ++ flat_map link_prefix_line (prefixes_at moment tables.prefixes)
 
--- what is known at a moment: the states of all ports, the routers, the prefixes, and how many found no place
+-- what is known at a moment: the states of the ports of the link, the routers, the prefixes, and how many found no place
 abbrev pub known_lines : Plan → ℕ → List Sighting → ℕ → List ℕ
 known_lines plan window past moment =
-    flat_map (port_state_line plan window past moment) plan.ports
+    flat_map (port_state_line plan window past moment) (link_ports plan.ports)
     ++ table_lines moment (learned_tables plan window past)
     ++ lost_line (learned_tables plan window past).lost
     ++ last_line
@@ -114,7 +117,7 @@ known_lines plan window past moment =
 -- what is printed of these arrivals
 abbrev pub printed : Plan → ℕ → List PortArrival → List ℕ
 printed plan window arrivals =
-    advert_lines plan window (seen_of arrivals) ++ known_lines plan window (seen_of arrivals) (last_moment arrivals)
+    advert_lines plan window (sightings_of plan arrivals) ++ known_lines plan window (sightings_of plan arrivals) (last_moment arrivals)
 
 -- The same, by what a learner keeps.
 
@@ -123,4 +126,4 @@ learned_port_line learned moment p = guard_line (number_of p.number) (state_of l
 
 abbrev pub learned_lines : Learned → List PortPlan → ℕ → List ℕ
 learned_lines learned ports moment =
-    flat_map (learned_port_line learned moment) ports ++ table_lines moment learned.tables ++ lost_line learned.tables.lost ++ last_line
+    flat_map (learned_port_line learned moment) (link_ports ports) ++ table_lines moment learned.tables ++ lost_line learned.tables.lost ++ last_line

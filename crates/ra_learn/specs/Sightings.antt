@@ -1,4 +1,4 @@
--- What is seen at the ports of a switch, the newest first: a frame of at most 1,518 octets, however short, its port and its
+-- What is seen at the ports of a link, the newest first: a frame of at most 1,518 octets, however short, its port and its
 -- moment (ms).
 use Rattle.std.specs.Prelude.{ℕ, List, [], ◌∷◌, Option, Some, None}
 use Rattle.std.specs.Option.{option_map, option_and_then}

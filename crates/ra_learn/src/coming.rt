@@ -3,7 +3,7 @@
 ghost use Rattle.std.specs.Prelude.{◌≡◌, ℕ, ◌≤◌, ◌∷◌, All, IfOk, OnErr, List, Option, length, map, reverse};
 ghost use Rattle.savi_kinds.specs.declared.plan.Plan.{Plan};
 ghost use Rattle.ra_learn.specs.Comings.{IsShort, arrival_of};
-ghost use Rattle.ra_learn.specs.Printed.{PortArrival, advert_lines, printed, seen_of};
+ghost use Rattle.ra_learn.specs.Printed.{PortArrival, advert_lines, printed, sightings_of};
 ghost use Rattle.ra_learn.specs.Reports.{HasReported, Wrote};
 
 use crate::report::Report;
@@ -55,8 +55,8 @@ fn take<K: Sink>(report: &mut Report, coming: &Coming, sink: &mut K)
     requires { IsShort coming.now }
     ensures tells { (plan : Plan) (window : ℕ) (arrivals : List PortArrival) → HasReported plan window arrivals report.old → HasReported plan window (arrival_of coming.now ∷ arrivals) report.new }
     ensures wrote { (plan : Plan) (window : ℕ) (arrivals : List PortArrival) (before : Option (List ℕ)) (faults : ℕ) → HasReported plan window arrivals report.old
-        → Wrote (advert_lines plan window (seen_of arrivals)) report.old.put before (K.written sink.old) faults (K.faults sink.old)
-        → Wrote (advert_lines plan window (seen_of (arrival_of coming.now ∷ arrivals))) report.new.put before (K.written sink.new) faults (K.faults sink.new) }
+        → Wrote (advert_lines plan window (sightings_of plan arrivals)) report.old.put before (K.written sink.old) faults (K.faults sink.old)
+        → Wrote (advert_lines plan window (sightings_of plan (arrival_of coming.now ∷ arrivals))) report.new.put before (K.written sink.new) faults (K.faults sink.new) }
 {
     match *coming {
         Coming::Frame {

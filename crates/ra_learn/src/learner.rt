@@ -3,8 +3,8 @@
 ghost use Rattle.std.specs.Prelude.{◌≡◌, ◌≤◌, ◌^◌, ℕ, IfOk};
 ghost use Rattle.std.specs.List.{list_any};
 ghost use Rattle.savi_kinds.specs.PortSets.{is_member};
-ghost use Rattle.savi_kinds.specs.ValidPlan.{nets_of};
 ghost use Rattle.ra_learn.specs.Guarding.{is_among, is_trusted_port, names_known};
+ghost use Rattle.ra_learn.specs.Link.{link_nets};
 ghost use Rattle.ra_learn.specs.Tables.{link_prefix_of};
 
 use crate::advert::{AdvertPrefix, Ra};
@@ -13,7 +13,9 @@ use crate::guard::Guard;
 use crate::prefixes::{LinkPrefix, LinkPrefixes};
 use crate::reader::read_ra;
 use crate::routers::{Router, Routers};
-use savi_kinds::{Addr, Moment, Plan, Port, PortPlan, PortSet, Prefix, PrefixPlan, Role};
+use savi_kinds::{
+    Addr, DEFAULT_VLAN, Moment, Plan, Port, PortPlan, PortSet, Prefix, PrefixPlan, Role,
+};
 use std::alloc::{AllocError, Global};
 use std::marker::Model;
 
@@ -26,7 +28,7 @@ const MS_PER_SECOND: u64 = 1_000;
 /// The valid lifetime that stands for infinity (RFC 4861 section 4.6.2).
 const INFINITE_LIFETIME: u32 = 0xffff_ffff;
 
-/// Which ports have routers, and which routers and prefixes a link has, learned from the frames that come in.
+/// Which ports have routers, and which routers and prefixes a link has, learned from the frames that come in at its ports.
 ///
 /// Contracts see what it keeps, and say how that stands with all that was seen (`HasLearned`). No call but `make` takes memory.
 #[derive(Drop)]
@@ -80,7 +82,7 @@ impl Learner {
     {
         Ok(Learner {
             trusted: trusted_ports(plan.ports.as_slice()),
-            nets: nets_of(alloc, plan.prefixes.as_slice())?,
+            nets: link_nets(alloc, plan.prefixes.as_slice())?,
             window,
             first: None,
             heard: PortSet::empty(),
@@ -91,9 +93,9 @@ impl Learner {
         })
     }
 
-    /// Sees a frame of at most 1,518 octets at port `p` at moment `t` (ms). The answer is whether it passes where it is a
-    /// router advertisement, and None exactly where it carries none (`carried`). O(n), and for an advertisement that passes
-    /// O(64) and O(32) for each of its prefixes.
+    /// Sees a frame of at most 1,518 octets at port `p` of the link at moment `t` (ms). The answer is whether it passes
+    /// where it is a router advertisement, and None exactly where it carries none (`carried`). O(n), and for an
+    /// advertisement that passes O(64) and O(32) for each of its prefixes.
     pub fn see(&mut self, p: Port, t: Moment, frame: &[u8]) -> Option<bool>
         requires short { length frame.now ≤ 1518 }
         requires moment { t ≤ 2 ^ 62 }
@@ -295,11 +297,15 @@ fn trusted_ports(ports: &[PortPlan]) -> PortSet
     trusted
 }
 
-// The prefixes of these parts of a plan.
-fn nets_of(alloc: Global, prefixes: &[PrefixPlan]) -> Result<Vec<Prefix>, AllocError>
-    ensures { IfOk result (λ nets. nets.items ≡ nets_of prefixes.now) }
+// The prefixes of the link among these parts of a plan.
+fn link_nets(alloc: Global, prefixes: &[PrefixPlan]) -> Result<Vec<Prefix>, AllocError>
+    ensures { IfOk result (λ nets. nets.items ≡ link_nets prefixes.now) }
 {
-    prefixes.iter().map(|p| p.prefix).collect(alloc)
+    prefixes
+        .iter()
+        .filter(|p| p.vlan == DEFAULT_VLAN)
+        .map(|p| p.prefix)
+        .collect(alloc)
 }
 
 // Whether each prefix of an advertisement is one of these.

@@ -1,8 +1,8 @@
 //! Stateful RA-Guard: which ports of a link have routers, and which prefixes these advertise, learned from the frames that
-//! come in.
+//! come in. The link is VLAN 1 at its access ports (IEEE 802.1Q table 9-2); trunks and ports of other VLANs are passed over.
 //!
 //! A window begins with the first frame. In it each port that isn't trusted only learns; from its end on a port forwards
-//! advertisements where it had good ones in the window, each of prefixes of the plan alone, and blocks them elsewhere.
+//! advertisements where it had good ones in the window, each of prefixes of the link alone, and blocks them elsewhere.
 //! `read_ra` reads an advertisement, `Learner` keeps what was learned, and `Report` writes it as text.
 //!
 //! Contracts see a `Learner` as what it keeps, and say how that stands with all that was seen (`HasLearned` of
@@ -19,6 +19,7 @@ mod guard;
 mod laws;
 mod learner;
 mod lines;
+mod link;
 mod options;
 mod prefixes;
 mod reader;

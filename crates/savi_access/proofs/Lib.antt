@@ -25,4 +25,6 @@ pub mod HeldAddresses
 pub mod CaseOf
 pub mod OneCase
 pub mod PlanRules
+pub mod OwnVlan
+pub mod OtherVlans
 pub mod Lifetimes

@@ -7,6 +7,7 @@ use Rattle.byteorder.specs.Endian.{big_number}
 use Rattle.hex.specs.Hex.{IsBytes}
 use Rattle.eth_frame.specs.declared.header.Eth.{Eth}
 use Rattle.eth_frame.specs.Frame.{header_of as ethernet_of, payload_of}
+use Rattle.eth_frame.specs.Tags.{is_tag}
 use Rattle.v6_chain.specs.declared.packet.Ip.{Ip}
 use Rattle.v6_chain.specs.declared.outcome.Chain.{Chain}
 use Rattle.v6_chain.specs.declared.outcome.Chain.TheVariants as chains
@@ -23,20 +24,20 @@ use Rattle.dhcp6_read.specs.DhcpOf.{begins_whole, front_option, behind_front, wi
 use Rattle.frame_class.specs.declared.classes.Class.{Class}
 use Rattle.frame_class.specs.declared.classes.Read.{Read}
 use Rattle.frame_class.specs.declared.classes.Read.TheVariants.{Udp}
-use Rattle.frame_class.specs.ClassOf.{is_tag, is_packet, is_for_dhcp, dhcp_message_of, message_read_of, read_by, typed_class_of, class_of}
+use Rattle.frame_class.specs.ClassOf.{is_packet, is_for_dhcp, dhcp_message_of, message_read_of, read_by, typed_class_of, class_of}
 use Rattle.frame_class.specs.Reading.{ipv6_type, destination_port, first_of_payload, udp_payload}
 use Rattle.savi_access.specs.Frames.{HasLifetimes, ShowsLifetimes, AreLifetimes}
 
-bytes_drop : (n : ℕ) (xs : List ℕ) → IsBytes xs → IsBytes (drop n xs)
+pub bytes_drop : (n : ℕ) (xs : List ℕ) → IsBytes xs → IsBytes (drop n xs)
 bytes_drop zero xs bytes = bytes
 bytes_drop (suc n) [] bytes = bytes
 bytes_drop (suc n) (x ∷ xs) bytes = bytes_drop n xs (λ i. bytes (suc i))
 
-bytes_cons : (x : ℕ) (xs : List ℕ) → x < 256 → IsBytes xs → IsBytes (x ∷ xs)
+pub bytes_cons : (x : ℕ) (xs : List ℕ) → x < 256 → IsBytes xs → IsBytes (x ∷ xs)
 bytes_cons x xs first rest zero = first
 bytes_cons x xs first rest (suc i) = rest i
 
-bytes_take : (n : ℕ) (xs : List ℕ) → IsBytes xs → IsBytes (take n xs)
+pub bytes_take : (n : ℕ) (xs : List ℕ) → IsBytes xs → IsBytes (take n xs)
 bytes_take zero xs bytes = λ i. omega arith
 bytes_take (suc n) [] bytes = bytes
 bytes_take (suc n) (x ∷ xs) bytes = bytes_cons x (take n xs) (bytes 0) (bytes_take n xs (λ j. bytes (suc j)))

@@ -1,6 +1,6 @@
 -- The rules of a valid plan are such as the laws on access want.
-use Rattle.std.proofs.Common.{◌≡◌, ◌≢◌, ℕ, ◌==◌, ◌||◌, true, if◌then◌else◌, Some, None, is_some, List, [], ◌∷◌, refl, ap, sym, ◌∙◌, subst, inl, inr, arith}
-use Rattle.std.specs.Prelude.{All}
+use Rattle.std.proofs.Common.{◌≡◌, ◌≢◌, ℕ, ◌==◌, ◌&&◌, ◌||◌, Bool, true, false, if◌then◌else◌, Option, Some, None, is_some, List, [], ◌∷◌, refl, ap, sym, ◌∙◌, subst, inl, inr, arith}
+use Rattle.std.specs.Prelude.{All, IsSomeAnd}
 use Rattle.std.specs.List.{list_any}
 use Rattle.std.proofs.lemmas.Bool.{false≢true, cases_Bool}
 use Rattle.std.proofs.lemmas.List.Elements.{All-nil, All-head, All-tail}
@@ -9,10 +9,14 @@ use Rattle.savi_access.specs.Rows.{address_of}
 use Rattle.savi_kinds.specs.declared.plan.Plan.{Plan}
 use Rattle.savi_kinds.specs.declared.plan.PortPlan.{PortPlan}
 use Rattle.savi_kinds.specs.declared.plan.PrefixPlan.{PrefixPlan}
+use Rattle.savi_kinds.specs.declared.plan.Method.{Method}
+use Rattle.savi_kinds.specs.declared.plan.Vlan.{Vlan}
+use Rattle.savi_kinds.specs.declared.plan.Vlan.TheVariants.{Access, Trunk}
 use Rattle.savi_kinds.specs.declared.plan.Role.{Role}
 use Rattle.savi_kinds.specs.declared.plan.Role.TheVariants as roles
 use Rattle.savi_kinds.specs.Ports.{number_of}
-use Rattle.savi_kinds.specs.ValidPlan.{IsValidPlan, numbers_of, nets_of, IsPlanPrefix}
+use Rattle.savi_kinds.specs.ValidPlan.{IsValidPlan, HasPlanVlans, numbers_of, nets_of, IsPlanPrefix}
+use Rattle.savi_kinds.specs.Vlans.{is_trunk, vlan_among, vlan_by, access_vlan_among, access_vlan}
 use Rattle.nd_read.specs.InPrefix.{lies_in}
 use Rattle.nd_read.proofs.InPrefix.{Decides-lies_in}
 use Rattle.fcfs_states.specs.Premises.{AreTimes}
@@ -20,7 +24,7 @@ use Rattle.savi_access.specs.Bases.{AddrRules, no_states}
 use Rattle.savi_access.specs.Limits.{IsAddrBase}
 use Rattle.savi_access.proofs.StatesKept.{nobody-kept}
 use Rattle.savi_access.specs.Rules.{IsRequestOf, HasHostPorts, IsAccessBase, nothing_yet}
-use Rattle.savi_access.specs.Plans.{times_of, has_port, vlan_by, vlan_among, role_among, role_of, method_among, method_in, rules_of}
+use Rattle.savi_access.specs.Plans.{times_of, has_port, role_among, role_of, method_among, method_in, rules_of}
 use Rattle.savi_access.proofs.States.{none_some}
 
 pub plan_times : (plan : Plan) → IsValidPlan plan → AreTimes (times_of plan)
@@ -42,17 +46,17 @@ no_states_base r times = record {
   begun = λ vlan a. tt;
 }
 
--- a port that has a VLAN isn't trusted
-hosts_among : (ports : List PortPlan) (number vlan : ℕ) → vlan_among ports number ≡ Some vlan → role_among ports number ≢ roles.Trusted
+-- a port that has a VLAN of its own isn't trusted
+hosts_among : (ports : List PortPlan) (number vlan : ℕ) → access_vlan_among ports number ≡ Some vlan → role_among ports number ≢ roles.Trusted
 hosts_among [] number vlan is trusted = false≢true (ap is_some is)
 hosts_among (p ∷ ports) number vlan is trusted =
     elim (cases_Bool (number_of p.number == number)) [
-      | inl here ↦ not_trusted p.role (subst (λ b. (if b then vlan_by p.role else vlan_among ports number) ≡ Some vlan) here is) (subst (λ b. (if b then p.role else role_among ports number) ≡ roles.Trusted) here trusted)
-      | inr behind ↦ hosts_among ports number vlan (subst (λ b. (if b then vlan_by p.role else vlan_among ports number) ≡ Some vlan) behind is) (subst (λ b. (if b then p.role else role_among ports number) ≡ roles.Trusted) behind trusted)
+      | inl here ↦ not_trusted p.role p.vlan (subst (λ b. (if b then vlan_by p.role p.vlan else access_vlan_among ports number) ≡ Some vlan) here is) (subst (λ b. (if b then p.role else role_among ports number) ≡ roles.Trusted) here trusted)
+      | inr behind ↦ hosts_among ports number vlan (subst (λ b. (if b then vlan_by p.role p.vlan else access_vlan_among ports number) ≡ Some vlan) behind is) (subst (λ b. (if b then p.role else role_among ports number) ≡ roles.Trusted) behind trusted)
     ]
   where
-    not_trusted : (role : Role) → vlan_by role ≡ Some vlan → role ≡ roles.Trusted → ⊥
-    not_trusted role has trusts = false≢true (ap is_some (sym (ap vlan_by trusts) ∙ has))
+    not_trusted : (role : Role) (of : Vlan) → vlan_by role of ≡ Some vlan → role ≡ roles.Trusted → ⊥
+    not_trusted role of has trusts = false≢true (ap is_some (sym (ap (λ (x : Role). vlan_by x of) trusts) ∙ has))
 
 pub host_ports : (plan : Plan) → HasHostPorts (rules_of plan)
 host_ports plan = hosts_among plan.ports
@@ -66,33 +70,47 @@ starts_within plan valid = record {
   requests = λ vlan. All-nil (IsRequestOf (rules_of plan) vlan 0);
 }
 
--- a port of the plan has the VLAN of its role
-pub own_vlan : (ports : List PortPlan) (number : ℕ) → list_any (λ n. n == number) (numbers_of ports) ≡ true → vlan_among ports number ≡ vlan_by (role_among ports number)
-own_vlan [] number has = absurd (none_some has)
-own_vlan (p ∷ ports) number has =
+-- a port whose sources are validated is an access port, and its own VLAN is that
+access_by : (role : Role) (of : Vlan) → role ≢ roles.Trusted → (is_trunk of ≡ true → role ≡ roles.Trusted) → IsSomeAnd (vlan_by role of) (λ vlan. Some of ≡ Some (Access vlan))
+access_by roles.Host (Access v) host trunk = refl
+access_by roles.Server (Access v) host trunk = refl
+access_by roles.Host (Trunk vs) host trunk = absurd (host (trunk refl))
+access_by roles.Server (Trunk vs) host trunk = absurd (host (trunk refl))
+access_by roles.Trusted of host trunk = absurd (host refl)
+
+pub access_among : (ports : List PortPlan) (number : ℕ) → All HasPlanVlans ports → list_any (λ n. n == number) (numbers_of ports) ≡ true → role_among ports number ≢ roles.Trusted
+    → IsSomeAnd (access_vlan_among ports number) (λ vlan. vlan_among ports number ≡ Some (Access vlan))
+access_among [] number valid has host = absurd (none_some has)
+access_among (p ∷ ports) number valid has host =
     elim (cases_Bool (number_of p.number == number)) [
-      | inl here ↦ rw here refl
-      | inr behind ↦ rw behind (own_vlan ports number (subst (λ b. (b || list_any (λ n. n == number) (numbers_of ports)) ≡ true) behind has))
+      | inl here ↦
+          subst (λ (b : Bool). IsSomeAnd (if b then vlan_by p.role p.vlan else access_vlan_among ports number) (λ vlan. (if b then Some p.vlan else vlan_among ports number) ≡ Some (Access vlan))) (sym here)
+          (access_by p.role p.vlan (subst (λ b. (if b then p.role else role_among ports number) ≢ roles.Trusted) here host) (All-head HasPlanVlans p ports valid).trusted)
+      | inr behind ↦
+          subst (λ (b : Bool). IsSomeAnd (if b then vlan_by p.role p.vlan else access_vlan_among ports number) (λ vlan. (if b then Some p.vlan else vlan_among ports number) ≡ Some (Access vlan))) (sym behind)
+          (access_among ports number (All-tail HasPlanVlans p ports valid)
+          (subst (λ b. (b || list_any (λ n. n == number) (numbers_of ports)) ≡ true) behind has)
+          (subst (λ b. (if b then p.role else role_among ports number) ≢ roles.Trusted) behind host))
     ]
 
-vlan_of_host : (role : Role) → role ≢ roles.Trusted → vlan_by role ≡ Some 1
-vlan_of_host roles.Host host = refl
-vlan_of_host roles.Server host = refl
-vlan_of_host roles.Trusted host = absurd (host refl)
-
-pub own_ports : (plan : Plan) (number : ℕ) → has_port plan number ≡ true → role_of plan number ≢ roles.Trusted → vlan_among plan.ports number ≡ Some 1
-own_ports plan number has host = own_vlan plan.ports number has ∙ vlan_of_host (role_of plan number) host
+pub own_ports : (plan : Plan) → IsValidPlan plan → (number : ℕ) → has_port plan number ≡ true → role_of plan number ≢ roles.Trusted
+    → IsSomeAnd (access_vlan plan number) (λ vlan. vlan_among plan.ports number ≡ Some (Access vlan))
+own_ports plan valid number has host = access_among plan.ports number valid.port_vlans has host
 
 -- :: lies in no prefix
-lies_nowhere : (prefixes : List PrefixPlan) → All IsPlanPrefix (nets_of prefixes) → method_among prefixes 0 ≡ None
-lies_nowhere [] each = refl
-lies_nowhere (p ∷ prefixes) each =
+no_method : (of : Bool) (m : Method) (rest : Option Method) → rest ≡ None → (if of && false then Some m else rest) ≡ None
+no_method true m rest none = none
+no_method false m rest none = none
+
+lies_nowhere : (prefixes : List PrefixPlan) (vlan : ℕ) → All IsPlanPrefix (nets_of prefixes) → method_among prefixes vlan 0 ≡ None
+lies_nowhere [] vlan each = refl
+lies_nowhere (p ∷ prefixes) vlan each =
     let valid : IsPlanPrefix p.prefix = All-head IsPlanPrefix p.prefix (nets_of prefixes) each in
-    let behind : method_among prefixes 0 ≡ None = lies_nowhere prefixes (All-tail IsPlanPrefix p.prefix (nets_of prefixes) each) in
+    let behind : method_among prefixes vlan 0 ≡ None = lies_nowhere prefixes vlan (All-tail IsPlanPrefix p.prefix (nets_of prefixes) each) in
     elim (cases_Bool (lies_in 0 p.prefix)) [
       | inl here ↦ absurd (valid.not_unspecified ((Decides-lies_in 0 p.prefix).0 here))
-      | inr apart ↦ rw apart behind
+      | inr apart ↦ rw apart (no_method (p.vlan == vlan) p.method (method_among prefixes vlan 0) behind)
     ]
 
-pub unspecified_off_link : (plan : Plan) → IsValidPlan plan → method_in plan 0 ≡ None
-unspecified_off_link plan valid = lies_nowhere plan.prefixes valid.plan_prefixes
+pub unspecified_off_link : (plan : Plan) → IsValidPlan plan → (vlan : ℕ) → method_in plan vlan 0 ≡ None
+unspecified_off_link plan valid vlan = lies_nowhere plan.prefixes vlan valid.plan_prefixes

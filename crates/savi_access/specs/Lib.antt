@@ -8,6 +8,7 @@ pub mod Marks
 pub mod Legal
 pub mod Bases
 pub mod NamedMarks
+pub mod VlanMarks
 pub mod States
 pub mod Tables
 pub mod Probes

@@ -1,11 +1,13 @@
 // What frames come to. Each function does nothing: its contract is the law.
 
-ghost use Rattle.std.specs.Prelude.{◌≡◌, ◌≢◌, ℕ, ◌≤◌, ◌^◌, ◌↔◌, ◌++◌, true, false, Some, None, List};
+ghost use Rattle.std.specs.Prelude.{◌≡◌, ◌≢◌, ℕ, ◌≤◌, ◌^◌, ◌↔◌, ◌++◌, true, false, Some, None, IsSomeAnd, List};
 ghost use Rattle.savi_kinds.specs.Ports.{number_of};
 ghost use Rattle.savi_kinds.specs.declared.port.Port.{Port};
 ghost use Rattle.savi_kinds.specs.declared.plan.Role.TheVariants.{Trusted};
 ghost use Rattle.savi_kinds.specs.declared.plan.Method.{Method};
 ghost use Rattle.savi_kinds.specs.declared.plan.Plan.{Plan};
+ghost use Rattle.savi_kinds.specs.declared.plan.Vlan.TheVariants.{Access};
+ghost use Rattle.savi_kinds.specs.Vlans.{vlan_among};
 ghost use Rattle.savi_kinds.specs.ValidPlan.{IsValidPlan};
 ghost use Rattle.eth_frame.specs.declared.header.Eth.{Eth};
 ghost use Rattle.v6_chain.specs.declared.packet.Ip.{Ip};
@@ -30,6 +32,7 @@ ghost use Rattle.savi_access.specs.Marks.{Mark, told, newest_moment, open_reques
 ghost use Rattle.savi_access.specs.Frames.{AreLifetimes};
 ghost use Rattle.savi_access.specs.Legal.{AreMarks, HasFront};
 ghost use Rattle.savi_access.specs.Judged.{judged, judged_without};
+ghost use Rattle.savi_access.specs.VlanMarks.{in_vlan, IsSameIn};
 ghost use Rattle.savi_access.specs.Cases.{IsCase, MeetsOneCase};
 ghost use Rattle.savi_access.specs.Access.{LivesAt, IsIpv6, HasAccess};
 ghost use Rattle.savi_access.specs.Plans.{rules_of, has_port};
@@ -84,11 +87,12 @@ pub fn a_frame_meets_one_case()
 {}
 
 /// The rules of a valid plan are such as the other laws want: its start is within the limits, each of its ports whose
-/// sources are validated is of the VLAN, and `::` isn't on-link.
+/// sources are validated is an access port and of that VLAN, and `::` isn't on-link.
 pub fn a_valid_plan_has_rules()
     ensures start { (plan : Plan) → IsValidPlan plan → IsAccessBase (rules_of plan) nothing_yet }
-    ensures ports { (plan : Plan) (number : ℕ) → has_port plan number ≡ true → (rules_of plan).role_of number ≢ Trusted
-        → (rules_of plan).addresses.vlan_of number ≡ Some 1 }
+    ensures ports { (plan : Plan) (number : ℕ)
+        → IsValidPlan plan → has_port plan number ≡ true → (rules_of plan).role_of number ≢ Trusted
+        → IsSomeAnd ((rules_of plan).addresses.vlan_of number) (λ vlan. vlan_among plan.ports number ≡ Some (Access vlan)) }
     ensures unspecified { (plan : Plan) (vlan : ℕ) → IsValidPlan plan → (rules_of plan).addresses.method_of vlan 0 ≡ None }
 {}
 
@@ -131,6 +135,19 @@ pub fn trusted_ports_are_not_validated()
     ensures { (r : AccessRules) (base : AccessBase) (vlan : ℕ) (port : Port) (t : ℕ) (past : List Mark) (class : Class)
         → r.role_of (number_of port) ≡ Trusted → guard_of (r.role_of (number_of port)) r.drop_unknown class ≡ None
         → IsPass (Some (judged r base vlan port t past class).verdict) }
+{}
+
+/// What a frame in a VLAN comes to follows from the marks of that VLAN: its verdict, its probe, and what it tells there.
+pub fn a_frame_reads_its_own_vlan()
+    ensures { (r : AccessRules) (base : AccessBase) (vlan : ℕ) (port : Port) (t : ℕ) (past other : List Mark) (class : Class)
+        → in_vlan vlan past ≡ in_vlan vlan other
+        → IsSameIn vlan (judged r base vlan port t past class) (judged r base vlan port t other class) }
+{}
+
+/// A frame in a VLAN leaves the marks of every other VLAN as they are.
+pub fn a_frame_leaves_other_vlans()
+    ensures { (r : AccessRules) (base : AccessBase) (vlan other : ℕ) (port : Port) (t : ℕ) (past : List Mark) (class : Class)
+        → vlan ≢ other → in_vlan other (judged r base vlan port t past class).marks ≡ in_vlan other past }
 {}
 
 /// Where sources aren't validated the rules on messages alone decide, and nothing is told.

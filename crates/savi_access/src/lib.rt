@@ -11,7 +11,8 @@
 //!   address (`specs/States.antt`), all states of a VLAN at once (`specs/Tables.antt`), the probes between two moments
 //!   (`specs/Probes.antt`), and which marks may come (`specs/Limits.antt`);
 //! - what a frame comes to, step by step (`specs/Judged.antt`) and once more case by case (`specs/Cases.antt`), and what is
-//!   told of requests beside addresses (`specs/Marks.antt`).
+//!   told of requests beside addresses (`specs/Marks.antt`); that it reads the marks of its own VLAN alone, and leaves those
+//!   of others as they are (`specs/VlanMarks.antt`).
 //!
 //! The machines `bind_table`, `timer_wheel`, `addr_table` and `access_table` are proved against these.
 #![tactic(auto)]
@@ -30,11 +31,11 @@ pub use address_laws::{
     states_are_read_from_any_moment, states_stay_a_base, there_is_one_table,
 };
 pub use laws::{
-    a_frame_comes_to_its_case, a_frame_meets_one_case, a_packet_passes_where_its_source_is_live,
-    a_valid_plan_has_rules, an_address_lives_where_it_is_live, frames_keep_the_marks,
-    frames_keep_who_came_first, lifetimes_are_of_32_bits, requests_stay_within_limits,
-    states_and_requests_stay_a_base, trusted_ports_are_not_validated,
-    without_validation_the_guard_decides,
+    a_frame_comes_to_its_case, a_frame_leaves_other_vlans, a_frame_meets_one_case,
+    a_frame_reads_its_own_vlan, a_packet_passes_where_its_source_is_live, a_valid_plan_has_rules,
+    an_address_lives_where_it_is_live, frames_keep_the_marks, frames_keep_who_came_first,
+    lifetimes_are_of_32_bits, requests_stay_within_limits, states_and_requests_stay_a_base,
+    trusted_ports_are_not_validated, without_validation_the_guard_decides,
 };
 pub use row::Row;
 pub use row_laws::{one_address_changes, tables_stay_tables};

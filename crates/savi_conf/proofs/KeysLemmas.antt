@@ -7,7 +7,7 @@ use Rattle.toml.specs.View.{members_view}
 use Rattle.toml.specs.declared.value.Value.{Value}
 use Rattle.savi_conf.specs.Documents.{keys_in}
 use Rattle.savi_conf.specs.Keys.{IsKnown}
-use Rattle.savi_conf.specs.KeyNames.{keys_of}
+use Rattle.savi_conf.specs.KeyNames.{IsOtherKey, keys_of}
 use Rattle.savi_conf.specs.declared.keys.KeyNames.{KeyNames}
 use Rattle.savi_conf.proofs.Listed.{Contains-map, Contains-unmap}
 
@@ -16,7 +16,7 @@ pub keys_in-view : (es : List (String Global × Value)) → keys_in (members_vie
 keys_in-view [] = refl
 keys_in-view (e ∷ es) = ap (λ ks. string_bytes e.0 ∷ ks) (keys_in-view es)
 
--- a word that is among those of one kind is known
+-- a word that is among those of one kind is one of another value than a list
 abbrev pub IsAmong : List (Bor (List ℕ)) → List ℕ → Type 0
 IsAmong words key = Any (λ w. w.now ≡ key) words
 
@@ -24,30 +24,49 @@ IsAmong words key = Any (λ w. w.now ≡ key) words
 abbrev told : List (Bor (List ℕ)) → List (List ℕ)
 told words = map (λ w. w.now) words
 
-pub known-texts : (names : KeyNames) (key : List ℕ) → IsAmong names.texts.now key → IsKnown (keys_of names) key
+pub other-texts : (names : KeyNames) (key : List ℕ) → IsAmong names.texts.now key → IsOtherKey (keys_of names) key
 unfolding keys_of
-known-texts names key among =
+other-texts names key among =
     record { among = Contains-append_left (told names.texts.now ++ told names.integers.now) (told names.arrays.now) key (Contains-append_left (told names.texts.now) (told names.integers.now) key (Contains-map (λ w. w.now) names.texts.now key among)) }
 
-pub known-integers : (names : KeyNames) (key : List ℕ) → IsAmong names.integers.now key → IsKnown (keys_of names) key
+pub other-integers : (names : KeyNames) (key : List ℕ) → IsAmong names.integers.now key → IsOtherKey (keys_of names) key
 unfolding keys_of
-known-integers names key among =
+other-integers names key among =
     record { among = Contains-append_left (told names.texts.now ++ told names.integers.now) (told names.arrays.now) key (Contains-append_right (told names.texts.now) (told names.integers.now) key (Contains-map (λ w. w.now) names.integers.now key among)) }
 
-pub known-arrays : (names : KeyNames) (key : List ℕ) → IsAmong names.arrays.now key → IsKnown (keys_of names) key
+pub other-arrays : (names : KeyNames) (key : List ℕ) → IsAmong names.arrays.now key → IsOtherKey (keys_of names) key
 unfolding keys_of
-known-arrays names key among =
+other-arrays names key among =
     record { among = Contains-append_right (told names.texts.now ++ told names.integers.now) (told names.arrays.now) key (Contains-map (λ w. w.now) names.arrays.now key among) }
 
--- and each that is known is among those of one kind
+-- and each such word is among those of one kind
 in_two : (names : KeyNames) (key : List ℕ) → Contains (told names.texts.now) key ⊎ Contains (told names.integers.now) key → IsAmong names.texts.now key ⊎ IsAmong names.integers.now key
 in_two names key (inl t) = inl (Contains-unmap (λ w. w.now) names.texts.now key t)
 in_two names key (inr i) = inr (Contains-unmap (λ w. w.now) names.integers.now key i)
 
-pub known-cases : (names : KeyNames) (key : List ℕ) → IsKnown (keys_of names) key → (IsAmong names.texts.now key ⊎ IsAmong names.integers.now key) ⊎ IsAmong names.arrays.now key
+pub other-cases : (names : KeyNames) (key : List ℕ) → IsOtherKey (keys_of names) key → (IsAmong names.texts.now key ⊎ IsAmong names.integers.now key) ⊎ IsAmong names.arrays.now key
 unfolding keys_of
-known-cases names key is =
+other-cases names key is =
     elim (Contains-append_cases (told names.texts.now ++ told names.integers.now) (told names.arrays.now) key is.among) [
       | inl two ↦ inl (in_two names key (Contains-append_cases (told names.texts.now) (told names.integers.now) key two))
       | inr a ↦ inr (Contains-unmap (λ w. w.now) names.arrays.now key a)
+    ]
+
+-- with the lists
+pub known-others : (names : KeyNames) (key : List ℕ) → IsOtherKey (keys_of names) key → IsKnown (keys_of names) key
+unfolding keys_of
+known-others names key other =
+    record { among = Contains-append_left (told names.texts.now ++ told names.integers.now ++ told names.arrays.now) (told names.lists.now) key other.among }
+
+pub known-lists : (names : KeyNames) (key : List ℕ) → IsAmong names.lists.now key → IsKnown (keys_of names) key
+unfolding keys_of
+known-lists names key among =
+    record { among = Contains-append_right (told names.texts.now ++ told names.integers.now ++ told names.arrays.now) (told names.lists.now) key (Contains-map (λ w. w.now) names.lists.now key among) }
+
+pub known-cases : (names : KeyNames) (key : List ℕ) → IsKnown (keys_of names) key → IsOtherKey (keys_of names) key ⊎ IsAmong names.lists.now key
+unfolding keys_of
+known-cases names key is =
+    elim (Contains-append_cases (told names.texts.now ++ told names.integers.now ++ told names.arrays.now) (told names.lists.now) key is.among) [
+      | inl other ↦ inl (record { among = other })
+      | inr list ↦ inr (Contains-unmap (λ w. w.now) names.lists.now key list)
     ]

@@ -1,4 +1,5 @@
 pub mod Tables
+pub mod Integers
 pub mod Listed
 pub mod KeysLemmas
 pub mod RangeLemmas
@@ -7,6 +8,9 @@ pub mod Both
 pub mod PartsLemmas
 pub mod FaultOrder
 pub mod Pairs
+pub mod Distinct
+pub mod Gathered
+pub mod VlansSaid
 pub mod InOrder
 pub mod MetLemmas
 pub mod OneOrder

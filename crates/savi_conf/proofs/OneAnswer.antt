@@ -1,11 +1,13 @@
 -- A text of a configuration has one answer.
-use Rattle.std.proofs.Common.{ℕ, pos, ◌≡◌, ◌≢◌, ◌+◌, ◌-◌, ◌*◌, ◌^◌, ◌<◌, ◌≤◌, Bool, true, false, List, get_or, length, codes, Option, Some, None, IsSomeAnd, Result, Ok, Err, refl, sym, ap, ◌∙◌, arith, inl, inr, ◌⊎◌}
+use Rattle.std.proofs.Common.{ℕ, ℤ, pos, ◌≡◌, ◌≢◌, ◌-◌, ◌*◌, ◌<◌, Bool, true, false, List, [], ◌∷◌, get_or, map, length, codes, Option, Some, None, IsSomeAnd, Result, Ok, Err, refl, sym, ap, ◌∙◌, subst₂, arith, inl, inr}
 use Rattle.std.specs.Prelude.{option_map}
 use Rattle.std.specs.List.{AllPairs}
-use Rattle.std.specs.List.Sorted.{IsStrictlyIncreasing}
+use Rattle.std.specs.List.Sorted.{IsPermutation, IsStrictlyIncreasing}
 use Rattle.std.proofs.lemmas.Bool.{cases_order}
 use Rattle.std.proofs.lemmas.Nat.{pow_pos}
 use Rattle.std.proofs.lemmas.List.Kept.{AllPairs-from_increasing}
+use Rattle.std.proofs.lemmas.List.Sorted.{IsPermutation-map, IsPermutation-refl, IsPermutation-sym, IsPermutation-trans}
+use lib.Signed.{mag}
 use Rattle.toml.specs.Data.{Members}
 use Rattle.savi_kinds.specs.declared.plan.Plan.{Plan}
 use Rattle.savi_kinds.specs.declared.plan.PortPlan.{PortPlan}
@@ -16,24 +18,22 @@ use Rattle.savi_kinds.specs.declared.plan.Method.{Method}
 use Rattle.savi_kinds.specs.declared.plan.Method.TheVariants.{Fcfs, Dhcp, Mixed}
 use Rattle.savi_kinds.specs.declared.plan.Format.{Format}
 use Rattle.savi_kinds.specs.declared.plan.Format.TheVariants.{Pcap, Stream}
-use Rattle.savi_kinds.specs.declared.address.Mac.{Mac}
-use Rattle.savi_kinds.specs.declared.address.Prefix.{Prefix}
+use Rattle.savi_kinds.specs.declared.plan.Vlan.{Vlan}
+use Rattle.savi_kinds.specs.declared.plan.Vlan.TheVariants.{Access, Trunk}
 use Rattle.savi_kinds.specs.MacText.{IsMacText}
 use Rattle.savi_kinds.specs.PrefixText.{IsPrefixText}
-use Rattle.savi_kinds.specs.Prefixes.{first_of, past_of}
-use Rattle.savi_kinds.specs.ValidPlan.{IsValidPlan, numbers_of, nets_of}
+use Rattle.savi_kinds.specs.ValidPlan.{IsValidPlan, StandsBefore, numbers_of}
 use Rattle.savi_kinds.specs.Ports.{number_of}
 use Rattle.savi_kinds.specs.PlanWords.{role_word, method_word, format_word, savi_word, unknown_word}
 use Rattle.savi_kinds.proofs.MacGrammar.{one_mac}
 use Rattle.savi_kinds.proofs.PrefixGrammar.{one_prefix}
 use Rattle.savi_kinds.proofs.PortNumbers.{port_same}
-use Rattle.savi_conf.specs.declared.fault.Fault.{Fault}
 use Rattle.savi_conf.specs.declared.fault.ConfFault.{ConfFault}
 use Rattle.savi_conf.specs.declared.fault.ConfFault.TheVariants.{NoMemory, NotToml, Bad}
 use Rattle.savi_conf.specs.Documents.{text_at}
 use Rattle.savi_conf.specs.Faults.{fault_number}
-use Rattle.savi_conf.specs.Requirements.{IsFirstFault, ports_in, prefixes_in}
-use Rattle.savi_conf.specs.PlanOf.{IsPortOf, IsPrefixOf, IsPlanOf, Lists}
+use Rattle.savi_conf.specs.Requirements.{port_tables, prefix_tables, trunk_in}
+use Rattle.savi_conf.specs.PlanOf.{IsPortOf, IsPrefixOf, IsPlanOf, Lists, SaysVlan}
 use Rattle.savi_conf.specs.Answers.{IsDocument, SaysPlan, HasFault, IsPlanAnswer, OfDocument, IsAnswer}
 use Rattle.savi_conf.specs.Laws.{TextHasOneAnswer}
 use Rattle.savi_conf.proofs.OneOrder.{order_once, said_once, AllPairs-from_map}
@@ -104,6 +104,35 @@ both_at : {X : Type 0} (o : Option X) (P Q : X → Type 0) → IsSomeAnd o P →
 both_at (Some x) P Q one other = (x, one, other)
 both_at None P Q one other = absurd one
 
+-- a list of numbers that rises is one order of them
+numbers_once : (zs : List ℤ) (vs ws : List ℕ) → IsPermutation zs (map (λ v. pos v) vs) → IsPermutation zs (map (λ v. pos v) ws) → IsStrictlyIncreasing vs → IsStrictlyIncreasing ws → vs ≡ ws
+numbers_once zs vs ws one other rises rises' =
+    let between = IsPermutation-trans (map (λ v. pos v) vs) zs (map (λ v. pos v) ws) (IsPermutation-sym zs (map (λ v. pos v) vs) one) other in
+    let natural = IsPermutation-map mag (map (λ v. pos v) vs) (map (λ v. pos v) ws) between in
+    let same : IsPermutation vs ws = subst₂ (λ (a b : List ℕ). IsPermutation a b) (mags vs) (mags ws) natural in
+    order_once (λ m n. m < n) (λ m n less more. omega (arith, less, more)) vs vs ws (IsPermutation-refl vs) same (AllPairs-from_increasing vs rises) (AllPairs-from_increasing ws rises')
+  where
+    mags : (ns : List ℕ) → map mag (map (λ (v : ℕ). pos v) ns) ≡ ns
+    mags [] = refl
+    mags (n ∷ ns) = ap (λ (l : List ℕ). n ∷ l) (mags ns)
+
+trunk_once : (o : Option (List ℤ)) (vs ws : List ℕ) → IsSomeAnd o (λ zs. IsPermutation zs (map (λ v. pos v) vs)) → IsSomeAnd o (λ zs. IsPermutation zs (map (λ v. pos v) ws))
+    → IsStrictlyIncreasing vs → IsStrictlyIncreasing ws → vs ≡ ws
+trunk_once None vs ws one other rises rises' = absurd one
+trunk_once (Some zs) vs ws one other rises rises' = numbers_once zs vs ws one other rises rises'
+
+no_trunk : (o : Option (List ℤ)) (P : List ℤ → Type 0) → o ≡ None → IsSomeAnd o P → ⊥
+no_trunk None P none some = some
+no_trunk (Some zs) P none some = let e : Some zs ≡ None = none in cc
+
+vlan_once : (t : Members) (v w : Vlan) → SaysVlan t v → SaysVlan t w → v ≡ w
+vlan_once t (Access v) (Access w) one other = ap (λ (n : ℕ). Access n) (pos_once v w (sym one.1 ∙ other.1))
+vlan_once t (Access v) (Trunk ws) one other = absurd (no_trunk (trunk_in t) _ one.0 other.0)
+vlan_once t (Trunk vs) (Access w) one other = absurd (no_trunk (trunk_in t) _ other.0 one.0)
+vlan_once t (Trunk vs) (Trunk ws) one other =
+    let items = trunk_once (trunk_in t) vs.items ws.items one.0 other.0 one.1 other.1 in
+    λ i. Trunk (record { items = items i })
+
 port_once : (t : Members) (p q : PortPlan) → IsPortOf t p → IsPortOf t q → p ≡ q
 port_once t p q one other =
     let number = port_same p.number q.number (pos_once _ _ (some_once _ _ _ one.number other.number)) in
@@ -111,27 +140,36 @@ port_once t p q one other =
     let format = format_once p.format q.format (sym one.format ∙ other.format) in
     let input : p.input ≡ q.input = some_once _ _ _ one.input other.input in
     let output : p.output ≡ q.output = some_once _ _ _ one.output other.output in
-    λ i. record { number = number i; role = role i; format = format i; input = input i; output = output i }
+    let vlan = vlan_once t p.vlan q.vlan one.vlan other.vlan in
+    λ i. record { number = number i; role = role i; format = format i; input = input i; output = output i; vlan = vlan i }
 
 prefix_once : (t : Members) (x y : PrefixPlan) → IsPrefixOf t x → IsPrefixOf t y → x ≡ y
 prefix_once t x y one other =
     let texts = both_at (text_at (codes "prefix") t) (λ text. IsPrefixText text x.prefix) (λ text. IsPrefixText text y.prefix) one.range other.range in
     let prefix = one_prefix texts.0 x.prefix y.prefix texts.1 texts.2 in
     let method = method_once x.method y.method (some_once _ _ _ one.method other.method) in
-    λ i. record { prefix = prefix i; method = method i }
+    let vlan = pos_once x.vlan y.vlan (sym one.vlan ∙ other.vlan) in
+    λ i. record { prefix = prefix i; method = method i; vlan = vlan i }
 
-list_once : {A : Type 0} (Says : Members → A → Type 0) (key : A → ℕ) → ((t : Members) (a b : A) → Says t a → Says t b → a ≡ b) → (ts : List Members) (xs ys : List A) → Lists Says ts xs → Lists Says ts ys → AllPairs (λ a b. key a < key b) xs → AllPairs (λ a b. key a < key b) ys → xs ≡ ys
-list_once Says key once ts xs ys one other rises rises' =
+list_once : {A : Type 0} (Says : Members → A → Type 0) (Before : A → A → Type 0) → ((a b : A) → Before a b → Before b a → ⊥) → ((t : Members) (a b : A) → Says t a → Says t b → a ≡ b) → (ts : List Members) (xs ys : List A) → Lists Says ts xs → Lists Says ts ys → AllPairs Before xs → AllPairs Before ys → xs ≡ ys
+list_once Says Before one_way once ts xs ys one other rises rises' =
     let said = said_once Says once ts one.said other.said one.in_order other.in_order in
-    order_once key one.said xs ys one.permutation (rw said other.permutation) rises rises'
+    order_once Before one_way one.said xs ys one.permutation (rw said other.permutation) rises rises'
 
-ports_rise : (plan : Plan) → IsValidPlan plan → AllPairs (λ (p q : PortPlan). number_of p.number < number_of q.number) plan.ports
+abbrev PortBefore : PortPlan → PortPlan → Type 0
+PortBefore p q = number_of p.number < number_of q.number
+
+port_one_way : (p q : PortPlan) → PortBefore p q → PortBefore q p → ⊥
+port_one_way p q less more = omega (arith, less, more)
+
+prefix_one_way : (x y : PrefixPlan) → StandsBefore x y → StandsBefore y x → ⊥
+prefix_one_way x y (inl less) (inl more) = omega (arith, less, more)
+prefix_one_way x y (inl less) (inr more) = omega (arith, less, more.0)
+prefix_one_way x y (inr less) (inl more) = omega (arith, less.0, more)
+prefix_one_way x y (inr less) (inr more) = omega (arith, less.1, more.1, pow_pos (128 - x.prefix.len), pow_pos (128 - y.prefix.len))
+
+ports_rise : (plan : Plan) → IsValidPlan plan → AllPairs PortBefore plan.ports
 ports_rise plan valid = AllPairs-from_map (λ m n. m < n) (λ (p : PortPlan). number_of p.number) plan.ports (AllPairs-from_increasing (numbers_of plan.ports) valid.ports)
-
-prefixes_rise : (plan : Plan) → IsValidPlan plan → AllPairs (λ (x y : PrefixPlan). first_of x.prefix < first_of y.prefix) plan.prefixes
-prefixes_rise plan valid = λ i j d before inside.
-    let ends = AllPairs-from_map (λ p q. past_of p ≤ first_of q) (λ (x : PrefixPlan). x.prefix) plan.prefixes valid.prefixes i j d before inside in
-    omega (arith, ends, pow_pos (128 - (get_or plan.prefixes i d).prefix.len))
 
 -- ---- plans
 
@@ -160,8 +198,8 @@ plan_once document p q one other valid valid' =
     let life : p.life ≡ q.life = one.life.2 ∙ ap (λ n. 1000 * n) seconds ∙ sym other.life.2 in
     let journal : p.journal ≡ q.journal = some_once _ _ _ one.journal other.journal in
     let control : p.control ≡ q.control = pair_once _ _ p.control q.control one.control one.control_out other.control other.control_out in
-    let ports = list_once IsPortOf (λ (x : PortPlan). number_of x.number) port_once (ports_in document) p.ports q.ports one.ports other.ports (ports_rise p valid) (ports_rise q valid') in
-    let prefixes = list_once IsPrefixOf (λ (x : PrefixPlan). first_of x.prefix) prefix_once (prefixes_in document) p.prefixes q.prefixes one.prefixes other.prefixes (prefixes_rise p valid) (prefixes_rise q valid') in
+    let ports = list_once IsPortOf PortBefore port_one_way port_once (port_tables document) p.ports q.ports one.ports other.ports (ports_rise p valid) (ports_rise q valid') in
+    let prefixes = list_once IsPrefixOf StandsBefore prefix_one_way prefix_once (prefix_tables document) p.prefixes q.prefixes one.prefixes other.prefixes valid.prefixes valid'.prefixes in
     λ i. record {
       mac = mac i;
       savi = savi i;

@@ -1,9 +1,8 @@
 -- A list in strict order is determined by what it holds.
-use Rattle.std.proofs.Common.{ℕ, zero, suc, ◌≡◌, ◌<◌, List, [], ◌∷◌, length, get_or, map, refl, sym, ap, ap₂, ◌∙◌, subst, arith, inl, inr, ◌⊎◌}
+use Rattle.std.proofs.Common.{ℕ, zero, suc, ◌≡◌, ◌<◌, List, [], ◌∷◌, length, get_or, map, refl, sym, ap₂, ◌∙◌, subst, arith, inl, inr, ◌⊎◌}
 use Rattle.std.specs.List.{All, AllPairs, Contains}
 use Rattle.std.specs.List.Sorted.{IsPermutation}
 use Rattle.std.proofs.lemmas.List.{get_or-map, length-map}
-use Rattle.std.proofs.lemmas.List.Elements.{All-cons, Contains-get_or}
 use Rattle.std.proofs.lemmas.List.Sorted.{IsPermutation-sym, IsPermutation-trans, Contains-permutation}
 use Rattle.savi_kinds.proofs.Pairs.{AllPairs-head, AllPairs-tail}
 use Rattle.savi_conf.specs.PlanOf.{SayInOrder}
@@ -32,50 +31,47 @@ holds_permuted xs ys permutation z inside =
     let there = Contains-permutation xs ys z permutation (contained xs z inside) in
     in_place ys z there.0 z there.1 there.2
 
-above : {X : Type 0} (key : X → ℕ) (x : X) (xs : List X) → All (λ y. key x < key y) xs → (z : X) → IsIn z xs → key x < key z
-above key x xs all z inside =
+above : {X : Type 0} (Before : X → X → Type 0) (x : X) (xs : List X) → All (Before x) xs → (z : X) → IsIn z xs → Before x z
+above Before x xs all z inside =
     let there = contained xs z inside in
-    subst (λ y. key x < key y) there.2 (all there.0 z there.1)
+    subst (λ y. Before x y) there.2 (all there.0 z there.1)
 
-abbrev Rises : {X : Type 0} → (X → ℕ) → List X → Type 0
-Rises key xs = AllPairs (λ x y. key x < key y) xs
+-- where of two things not each is before the other
+abbrev pub IsOneWay : {X : Type 0} → (X → X → Type 0) → Type 0
+IsOneWay {X} Before = (x y : X) → Before x y → Before y x → ⊥
 
 -- where all that is in a list is in another with the same least item, all behind the least is behind it
-behind_least : {X : Type 0} (key : X → ℕ) (x y : X) (xs ys : List X) → All (λ z. key x < key z) xs → x ≡ y → Holds (x ∷ xs) (y ∷ ys) → Holds xs ys
-behind_least key x y xs ys all same holds z inside = rest (holds z (inr inside))
+behind_least : {X : Type 0} (Before : X → X → Type 0) → IsOneWay Before → (x y : X) (xs ys : List X) → All (Before x) xs → x ≡ y → Holds (x ∷ xs) (y ∷ ys) → Holds xs ys
+behind_least Before one_way x y xs ys all same holds z inside = rest (holds z (inr inside))
   where
     rest : (z ≡ y) ⊎ IsIn z ys → IsIn z ys
     rest (inr later) = later
     rest (inl first) =
-        let more : key x < key z = above key x xs all z inside in
-        let level : key z ≡ key x = ap key (first ∙ sym same) in
-        absurd (omega (arith, more, level))
+        let more : Before x z = above Before x xs all z inside in
+        let level : Before x x = subst (λ w. Before x w) (first ∙ sym same) more in
+        absurd (one_way x x level level)
 
-least_same : {X : Type 0} (key : X → ℕ) (x y : X) (xs ys : List X) → All (λ z. key x < key z) xs → All (λ z. key y < key z) ys → (x ≡ y) ⊎ IsIn x ys → (y ≡ x) ⊎ IsIn y xs → x ≡ y
-least_same key x y xs ys all all' (inl same) other = same
-least_same key x y xs ys all all' (inr later) (inl same) = sym same
-least_same key x y xs ys all all' (inr later) (inr later') =
-    let more : key y < key x = above key y ys all' x later in
-    let less : key x < key y = above key x xs all y later' in
-    absurd (omega (arith, more, less))
+least_same : {X : Type 0} (Before : X → X → Type 0) → IsOneWay Before → (x y : X) (xs ys : List X) → All (Before x) xs → All (Before y) ys → (x ≡ y) ⊎ IsIn x ys → (y ≡ x) ⊎ IsIn y xs → x ≡ y
+least_same Before one_way x y xs ys all all' (inl same) other = same
+least_same Before one_way x y xs ys all all' (inr later) (inl same) = sym same
+least_same Before one_way x y xs ys all all' (inr later) (inr later') = absurd (one_way x y (above Before x xs all y later') (above Before y ys all' x later))
 
-rising_once : {X : Type 0} (key : X → ℕ) (xs ys : List X) → Rises key xs → Rises key ys → Holds xs ys → Holds ys xs → xs ≡ ys
-rising_once key [] [] rises rises' there back = refl
-rising_once key [] (y ∷ ys) rises rises' there back = absurd (back y (inl refl))
-rising_once key (x ∷ xs) [] rises rises' there back = absurd (there x (inl refl))
-rising_once {X} key (x ∷ xs) (y ∷ ys) rises rises' there back =
-    let R : X → X → Type 0 = λ a b. key a < key b in
-    let all : All (λ z. key x < key z) xs = AllPairs-head R x xs rises in
-    let all' : All (λ z. key y < key z) ys = AllPairs-head R y ys rises' in
-    let same : x ≡ y = least_same key x y xs ys all all' (there x (inl refl)) (back y (inl refl)) in
-    let rest : xs ≡ ys = rising_once key xs ys (AllPairs-tail R x xs rises) (AllPairs-tail R y ys rises') (behind_least key x y xs ys all same there) (behind_least key y x ys xs all' (sym same) back) in
+rising_once : {X : Type 0} (Before : X → X → Type 0) → IsOneWay Before → (xs ys : List X) → AllPairs Before xs → AllPairs Before ys → Holds xs ys → Holds ys xs → xs ≡ ys
+rising_once Before one_way [] [] rises rises' there back = refl
+rising_once Before one_way [] (y ∷ ys) rises rises' there back = absurd (back y (inl refl))
+rising_once Before one_way (x ∷ xs) [] rises rises' there back = absurd (there x (inl refl))
+rising_once {X} Before one_way (x ∷ xs) (y ∷ ys) rises rises' there back =
+    let all : All (Before x) xs = AllPairs-head Before x xs rises in
+    let all' : All (Before y) ys = AllPairs-head Before y ys rises' in
+    let same : x ≡ y = least_same Before one_way x y xs ys all all' (there x (inl refl)) (back y (inl refl)) in
+    let rest : xs ≡ ys = rising_once Before one_way xs ys (AllPairs-tail Before x xs rises) (AllPairs-tail Before y ys rises') (behind_least Before one_way x y xs ys all same there) (behind_least Before one_way y x ys xs all' (sym same) back) in
     ap₂ (λ (a : X) (l : List X). a ∷ l) same rest
 
 -- two orders of the same items that both rise
-pub order_once : {X : Type 0} (key : X → ℕ) (said xs ys : List X) → IsPermutation said xs → IsPermutation said ys → Rises key xs → Rises key ys → xs ≡ ys
-order_once key said xs ys one other rises rises' =
+pub order_once : {X : Type 0} (Before : X → X → Type 0) → IsOneWay Before → (said xs ys : List X) → IsPermutation said xs → IsPermutation said ys → AllPairs Before xs → AllPairs Before ys → xs ≡ ys
+order_once Before one_way said xs ys one other rises rises' =
     let there = IsPermutation-trans xs said ys (IsPermutation-sym said xs one) other in
-    rising_once key xs ys rises rises' (holds_permuted xs ys there) (holds_permuted ys xs (IsPermutation-sym xs ys there))
+    rising_once Before one_way xs ys rises rises' (holds_permuted xs ys there) (holds_permuted ys xs (IsPermutation-sym xs ys there))
 
 -- what holds of each two images holds of what they are the images of
 pub AllPairs-from_map : {X Y : Type 0} (R : Y → Y → Type 0) (f : X → Y) (xs : List X) → AllPairs R (map f xs) → AllPairs (λ x y. R (f x) (f y)) xs

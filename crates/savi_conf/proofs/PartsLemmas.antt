@@ -3,6 +3,7 @@ use Rattle.std.proofs.Common.{◌≡◌, ◌↔◌, ℕ, List, Bool, IsTrue, Bor
 use Rattle.std.specs.List.{All}
 use Rattle.std.proofs.lemmas.Bool.{false≢true}
 use Rattle.std.proofs.lemmas.List.{length-map}
+use Rattle.std.proofs.lemmas.Simd.{map-map}
 use Rattle.toml.specs.Data.{Members}
 use Rattle.toml.specs.View.{table_view}
 use Rattle.toml.specs.declared.value.Value.{Value}
@@ -11,7 +12,7 @@ use Rattle.savi_kinds.specs.MacText.{IsMacText}
 use Rattle.savi_kinds.specs.Macs.{is_group}
 use Rattle.savi_kinds.proofs.MacGrammar.{one_mac}
 use Rattle.savi_conf.specs.Keys.{Keys}
-use Rattle.savi_conf.specs.Requirements.{IsSwitchMac}
+use Rattle.savi_conf.specs.Requirements.{IsSwitchMac, vlans_in}
 use Rattle.savi_conf.proofs.Listed.{seen_all}
 
 -- a table behind a reference
@@ -28,6 +29,10 @@ each_of Each names keys ts ms r same seen tells = rw (← same) (seen_all (Each 
 -- as many tables are seen as there are
 pub length-seen : (ts : List Seen) (ms : List Members) → map (λ t. view_of t) ts ≡ ms → length ms ≡ length ts
 length-seen ts ms seen = rw (← seen) (length-map ts (λ t. view_of t))
+
+-- the numbers of the VLANs of the ports that are seen
+pub vlans_seen : (ts : List Seen) (ms : List Members) → map (λ t. view_of t) ts ≡ ms → map (λ t. vlans_in (view_of t)) ts ≡ map vlans_in ms
+vlans_seen ts ms seen = sym (map-map vlans_in (λ t. view_of t) ts) ∙ ap (map vlans_in) seen
 
 -- a text of a MAC address is one of a switch exactly where that has no group bit
 pub switch_mac : (text : List ℕ) (mac : Mac) (group : Bool) → group ≡ is_group mac → IsMacText text mac → IsTrue (not group) ↔ IsSwitchMac text

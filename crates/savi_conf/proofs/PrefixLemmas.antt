@@ -8,7 +8,7 @@ use Rattle.savi_kinds.specs.ValidPlan.{IsPlanPrefix}
 use Rattle.savi_kinds.proofs.PrefixGrammar.{one_prefix}
 use Rattle.toml.specs.Data.{Members}
 use Rattle.savi_conf.specs.Documents.{text_at}
-use Rattle.savi_conf.specs.Requirements.{HasPrefix, TellsPlanPrefix, HaveApartRanges, IsSomePrefix}
+use Rattle.savi_conf.specs.Requirements.{HasPrefix, TellsPlanPrefix, IsSomePrefix}
 
 one_told : (text : Option (List ℕ)) (p q : Prefix) → IsSomeAnd text (λ t. IsPrefixText t p) → IsSomeAnd text (λ t. IsPrefixText t q) → p ≡ q
 one_told None p q one other = absurd one
@@ -20,14 +20,11 @@ HasPrefix-one t p q one other = one_told (text_at (codes "prefix") t) p q one ot
 pub tells_one : (t : Members) (p : Prefix) → HasPrefix t p → IsPlanPrefix p → TellsPlanPrefix t
 tells_one t p has host = record { each = λ q other. subst IsPlanPrefix (HasPrefix-one t p q has other) host }
 
-pub apart_tables : (t u : Members) (p q : Prefix) → HasPrefix t p → HasPrefix u q → AreApart p q → HaveApartRanges t u
-apart_tables t u p q has has' apart =
-    record {
-      each = λ p' q' one other.
-          let P : Prefix → Type 0 = λ x. AreApart x q' in
-          let Q : Prefix → Type 0 = λ y. AreApart p y in
-          subst P (HasPrefix-one t p p' has one) (subst Q (HasPrefix-one u q q' has' other) apart);
-    }
+pub apart_tables : (t u : Members) (p q : Prefix) → HasPrefix t p → HasPrefix u q → AreApart p q → (p' q' : Prefix) → HasPrefix t p' → HasPrefix u q' → AreApart p' q'
+apart_tables t u p q has has' apart p' q' one other =
+    let P : Prefix → Type 0 = λ x. AreApart x q' in
+    let Q : Prefix → Type 0 = λ y. AreApart p y in
+    subst P (HasPrefix-one t p p' has one) (subst Q (HasPrefix-one u q q' has' other) apart)
 
 pub some_prefix : (text : List ℕ) (r : Option Prefix) → IfSome r (IsPrefixText text) → IfNone r ((p : Prefix) → ¬ IsPrefixText text p) → IsTrue (is_some r) ↔ IsSomePrefix text
 some_prefix text None read only = (λ no. absurd (false≢true no), λ some. absurd (only some.prefix some.spelled))

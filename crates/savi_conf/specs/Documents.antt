@@ -1,7 +1,7 @@
 -- What stands at the keys of a table of TOML.
-use Rattle.std.specs.Prelude.{ℕ, ℤ, List, [], ◌∷◌, Option, option_and_then, unwrap_or}
+use Rattle.std.specs.Prelude.{ℕ, ℤ, List, [], ◌∷◌, Option, option_and_then, option_map, unwrap_or}
 use Rattle.std.specs.Option.{option_map_or}
-use Rattle.toml.specs.Data.{Data, array, table, Items, no_items, item, Members, no_members, member, get_member, as_str, as_integer}
+use Rattle.toml.specs.Data.{Data, integer, array, table, Items, no_items, item, Members, no_members, member, get_member, as_str, as_integer, as_array}
 
 -- the text at a key, where there is one
 abbrev pub text_at : List ℕ → Members → Option (List ℕ)
@@ -17,6 +17,16 @@ text_or key default t = unwrap_or (text_at key t) default
 
 abbrev pub integer_or : List ℕ → ℤ → Members → ℤ
 integer_or key default t = unwrap_or (integer_at key t) default
+
+-- those of some items that are integers, in order
+abbrev pub integers_among : Items → List ℤ
+integers_among no_items = []
+integers_among (item (integer z) rest) = z ∷ integers_among rest
+integers_among (item _ rest) = integers_among rest
+
+-- the integers of the array at a key, where there is one
+abbrev pub integers_at : List ℕ → Members → Option (List ℤ)
+integers_at key t = option_map integers_among (option_and_then as_array (get_member key t))
 
 -- those of some items that are tables, in order
 abbrev pub tables_among : Items → List Members

@@ -1,7 +1,7 @@
 -- The number of each fault of a configuration. Of several that apply the one with the least number is told.
 use Rattle.std.specs.Prelude.{ℕ}
 use Rattle.savi_conf.specs.declared.fault.Fault.{Fault}
-use Rattle.savi_conf.specs.declared.fault.Fault.TheVariants.{UnknownKey, WrongKind, MissingKey, SwitchMac, SaviWord, NextHeaderWord, PerPort, Depth, Entries, Bytes, Times, PortCount, PortNumbers, RoleWord, FormatWord, PrefixTexts, PrefixRanges, MethodWord, StreamInReplay}
+use Rattle.savi_conf.specs.declared.fault.Fault.TheVariants.{UnknownKey, WrongKind, MissingKey, SwitchMac, SaviWord, NextHeaderWord, PerPort, Depth, Entries, Bytes, Times, PortCount, PortNumbers, RoleWord, FormatWord, PrefixTexts, PrefixRanges, MethodWord, StreamInReplay, VlanNumbers, TrunkRole, VlanCount}
 
 -- the number of a text that is too long, which isn't parsed
 abbrev pub too_long : ℕ
@@ -27,3 +27,6 @@ fault_number PrefixTexts = 17
 fault_number PrefixRanges = 18
 fault_number MethodWord = 19
 fault_number StreamInReplay = 20
+fault_number VlanNumbers = 22
+fault_number TrunkRole = 23
+fault_number VlanCount = 24

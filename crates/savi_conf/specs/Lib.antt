@@ -5,6 +5,7 @@ pub mod Words
 pub mod Faults
 pub mod FaultTexts
 pub mod Requirements
+pub mod Gathering
 pub mod Parts
 pub mod PlanOf
 pub mod Told

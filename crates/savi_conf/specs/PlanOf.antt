@@ -1,15 +1,24 @@
 -- The plan that a document says.
-use Rattle.std.specs.Prelude.{ℕ, pos, ◌*◌, ◌<◌, ◌≡◌, List, length, slice_index_or, codes, Some, option_map, IsSomeAnd, IsPermutation}
+use Rattle.std.specs.Prelude.{ℕ, pos, ◌*◌, ◌<◌, ◌≡◌, List, map, length, slice_index_or, codes, Some, None, option_map, IsSomeAnd, IsPermutation}
+use Rattle.std.specs.List.Sorted.{IsStrictlyIncreasing}
 use Rattle.toml.specs.Data.{Members}
 use Rattle.savi_kinds.specs.declared.plan.Plan.{Plan}
 use Rattle.savi_kinds.specs.declared.plan.PortPlan.{PortPlan}
 use Rattle.savi_kinds.specs.declared.plan.PrefixPlan.{PrefixPlan}
 use Rattle.savi_kinds.specs.declared.plan.Format.TheVariants.{Pcap}
+use Rattle.savi_kinds.specs.declared.plan.Vlan.{Vlan}
+use Rattle.savi_kinds.specs.declared.plan.Vlan.TheVariants.{Access, Trunk}
 use Rattle.savi_kinds.specs.MacText.{IsMacText}
 use Rattle.savi_kinds.specs.Ports.{number_of}
 use Rattle.savi_conf.specs.Documents.{text_at, text_or}
 use Rattle.savi_kinds.specs.PlanWords.{role_word, method_word, format_word, savi_word, unknown_word}
-use Rattle.savi_conf.specs.Requirements.{ports_in, prefixes_in, number_in, savi_in, unknown_in, per_port_in, depth_in, entries_in, bytes_in, gap_in, test_in, life_in, HasPrefix}
+use Rattle.savi_conf.specs.Requirements.{port_tables, prefix_tables, number_in, vlan_in, trunk_in, savi_in, unknown_in, per_port_in, depth_in, entries_in, bytes_in, gap_in, test_in, life_in, HasPrefix}
+
+-- the table says these VLANs: those that `trunk` lists, in rising order, or, without it, the one at `vlan`
+abbrev pub SaysVlan : Members → Vlan → Type 0
+SaysVlan t (Access v) = (trunk_in t ≡ None) × (vlan_in t ≡ pos v)
+SaysVlan t (Trunk vs) =
+    IsSomeAnd (trunk_in t) (λ numbers. IsPermutation numbers (map (λ v. pos v) vs.items)) × IsStrictlyIncreasing vs.items
 
 -- the table says this port
 pub record IsPortOf (t : Members) (port : PortPlan) : Type 0 where
@@ -18,11 +27,13 @@ pub record IsPortOf (t : Members) (port : PortPlan) : Type 0 where
   pub format : text_or (codes "format") (format_word Pcap) t ≡ format_word port.format
   pub input : text_at (codes "input") t ≡ Some port.input
   pub output : text_at (codes "output") t ≡ Some port.output
+  pub vlan : SaysVlan t port.vlan
 
 -- the table says this prefix
 pub record IsPrefixOf (t : Members) (prefix : PrefixPlan) : Type 0 where
   pub range : HasPrefix t prefix.prefix
   pub method : text_at (codes "method") t ≡ Some (method_word prefix.method)
+  pub vlan : vlan_in t ≡ pos prefix.vlan
 
 -- as many things as tables, and each table says the thing at its place
 pub record SayInOrder {T A : Type 0} (Says : T → A → Type 0) (tables : List T) (things : List A) : Type 0 where
@@ -51,5 +62,5 @@ pub record IsPlanOf (document : Members) (plan : Plan) : Type 0 where
   pub journal : text_at (codes "journal") document ≡ Some plan.journal
   pub control : text_at (codes "control") document ≡ option_map (λ names. names.0) plan.control
   pub control_out : text_at (codes "control_out") document ≡ option_map (λ names. names.1) plan.control
-  pub ports : Lists IsPortOf (ports_in document) plan.ports
-  pub prefixes : Lists IsPrefixOf (prefixes_in document) plan.prefixes
+  pub ports : Lists IsPortOf (port_tables document) plan.ports
+  pub prefixes : Lists IsPrefixOf (prefix_tables document) plan.prefixes

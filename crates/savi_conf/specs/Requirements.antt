@@ -1,8 +1,9 @@
 -- What a configuration has to meet. Each fault is that one requirement isn't met.
-use Rattle.std.specs.Prelude.{ℕ, ℤ, pos, ◌≤ℤ◌, ◌<ℤ◌, ◌≤◌, ◌<◌, ◌≡◌, ◌≢◌, Bool, true, false, List, length, codes, Option, Some, is_some, IfSome, IsSomeAnd, All, AllPairs}
+use Rattle.std.specs.Prelude.{ℕ, ℤ, pos, ◌≤ℤ◌, ◌<ℤ◌, ◌≤◌, ◌<◌, ◌≡◌, ◌≢◌, Bool, true, false, List, [], ◌∷◌, map, length, codes, Option, Some, None, is_some, unwrap_or, IsSome, IfSome, IsSomeAnd, All, AllPairs, Contains}
 use Rattle.toml.specs.Data.{Members}
 use Rattle.savi_kinds.specs.declared.address.Mac.{Mac}
 use Rattle.savi_kinds.specs.declared.plan.Format.TheVariants.{Stream}
+use Rattle.savi_kinds.specs.declared.plan.Role.TheVariants.{Trusted}
 use Rattle.savi_kinds.specs.declared.address.Prefix.{Prefix}
 use Rattle.savi_kinds.specs.MacText.{IsMacText}
 use Rattle.savi_kinds.specs.PrefixText.{IsPrefixText}
@@ -10,19 +11,19 @@ use Rattle.savi_kinds.specs.Prefixes.{AreApart}
 use Rattle.savi_kinds.specs.Macs.{is_group}
 use Rattle.savi_kinds.specs.ValidPlan.{IsPlanPrefix}
 use Rattle.savi_conf.specs.declared.fault.Fault.{Fault}
-use Rattle.savi_conf.specs.declared.fault.Fault.TheVariants.{UnknownKey, WrongKind, MissingKey, SwitchMac, SaviWord, NextHeaderWord, PerPort, Depth, Entries, Bytes, Times, PortCount, PortNumbers, RoleWord, FormatWord, PrefixTexts, PrefixRanges, MethodWord, StreamInReplay}
-use Rattle.savi_conf.specs.Documents.{text_at, text_or, integer_at, integer_or, tables_at}
+use Rattle.savi_conf.specs.declared.fault.Fault.TheVariants.{UnknownKey, WrongKind, MissingKey, SwitchMac, SaviWord, NextHeaderWord, PerPort, Depth, Entries, Bytes, Times, PortCount, PortNumbers, RoleWord, FormatWord, PrefixTexts, PrefixRanges, MethodWord, StreamInReplay, VlanNumbers, TrunkRole, VlanCount}
+use Rattle.savi_conf.specs.Documents.{text_at, text_or, integer_at, integer_or, integers_at, tables_at}
 use Rattle.savi_conf.specs.Keys.{Keys, top_keys, port_keys, prefix_keys, HasOnly, HasKinds, HasRequired}
 use Rattle.savi_kinds.specs.PlanWords.{role_word, method_word, format_word, savi_word, unknown_word}
 use Rattle.savi_conf.specs.Words.{HasWord}
 use Rattle.savi_conf.specs.Faults.{fault_number}
 
 -- the tables of the ports, and those of the prefixes
-abbrev pub ports_in : Members → List Members
-ports_in document = tables_at (codes "port") document
+abbrev pub port_tables : Members → List Members
+port_tables document = tables_at (codes "port") document
 
-abbrev pub prefixes_in : Members → List Members
-prefixes_in document = tables_at (codes "prefix") document
+abbrev pub prefix_tables : Members → List Members
+prefix_tables document = tables_at (codes "prefix") document
 
 -- an integer from the least to the most
 abbrev pub IsBetween : ℕ → ℕ → ℤ → Type 0
@@ -37,8 +38,8 @@ pub record IsSwitchMac (text : List ℕ) : Type 0 where
 -- the requirement `Each` for the document, each port and each prefix, by their keys
 pub record EachTable (Each : Keys → Members → Type 0) (document : Members) : Type 0 where
   pub top : Each top_keys document
-  pub ports : All (Each port_keys) (ports_in document)
-  pub prefixes : All (Each prefix_keys) (prefixes_in document)
+  pub ports : All (Each port_keys) (port_tables document)
+  pub prefixes : All (Each prefix_keys) (prefix_tables document)
 
 -- `control` and `control_out` stand together
 abbrev pub HasBothControls : Members → Type 0
@@ -81,6 +82,43 @@ pub record HasNumbers (ports : List Members) : Type 0 where
   pub range : All (λ port. IfSome (number_in port) (IsBetween 1 16)) ports
   pub different : AllPairs (λ p q. number_in p ≢ number_in q) ports
 
+-- the number at `vlan`: of an access port, or of a prefix
+abbrev pub vlan_in : Members → ℤ
+vlan_in t = integer_or (codes "vlan") (pos 1) t
+
+-- the numbers that a trunk lists, where the port is a trunk
+abbrev pub trunk_in : Members → Option (List ℤ)
+trunk_in port = integers_at (codes "trunk") port
+
+-- the numbers of a port's VLANs
+abbrev pub vlans_in : Members → List ℤ
+vlans_in port = unwrap_or (trunk_in port) (vlan_in port ∷ [])
+
+-- a port doesn't have both keys
+pub record HasOneVlanKey (port : Members) : Type 0 where
+  pub alone : IsSome (trunk_in port) → integer_at (codes "vlan") port ≡ None
+
+-- numbers of VLANs (IEEE 802.1Q table 9-2), one or more, no two the same
+pub record AreVlanNumbers (numbers : List ℤ) : Type 0 where
+  pub some : 1 ≤ length numbers
+  pub range : All (IsBetween 1 4094) numbers
+  pub different : AllPairs (λ v w. v ≢ w) numbers
+
+pub record HasVlanNumbers (document : Members) : Type 0 where
+  pub keys : All HasOneVlanKey (port_tables document)
+  pub ports : All AreVlanNumbers (map vlans_in (port_tables document))
+  pub prefixes : All (λ t. IsBetween 1 4094 (vlan_in t)) (prefix_tables document)
+
+-- a trunk is trusted
+pub record HasTrunkRole (port : Members) : Type 0 where
+  pub trusted : IsSome (trunk_in port) → text_at (codes "role") port ≡ Some (role_word Trusted)
+
+-- the numbers of all ports are among 8
+pub record AreFewVlans (numbers : List (List ℤ)) : Type 0 where
+  pub vlans : List ℤ
+  pub few : length vlans ≤ 8
+  pub among : All (All (Contains vlans)) numbers
+
 -- the table's text at `prefix` is that of this prefix
 abbrev pub HasPrefix : Members → Prefix → Type 0
 HasPrefix t p = IsSomeAnd (text_at (codes "prefix") t) (λ text. IsPrefixText text p)
@@ -98,9 +136,9 @@ pub record HasPrefixTexts (prefixes : List Members) : Type 0 where
 pub record TellsPlanPrefix (t : Members) : Type 0 where
   pub each : (p : Prefix) → HasPrefix t p → IsPlanPrefix p
 
--- the prefixes of the tables, where both have one, have no address in common
+-- the prefixes of the tables, where both have one and are of one VLAN, have no address in common
 pub record HaveApartRanges (t u : Members) : Type 0 where
-  pub each : (p q : Prefix) → HasPrefix t p → HasPrefix u q → AreApart p q
+  pub each : vlan_in t ≡ vlan_in u → (p q : Prefix) → HasPrefix t p → HasPrefix u q → AreApart p q
 
 pub record HasPrefixRanges (prefixes : List Members) : Type 0 where
   pub planned : All TellsPlanPrefix prefixes
@@ -126,14 +164,17 @@ Meets replay document Depth = IsBetween 1 256 (depth_in document)
 Meets replay document Entries = IsBetween 4131 1000000 (entries_in document)
 Meets replay document Bytes = IsBetween 1518 1073741824 (bytes_in document)
 Meets replay document Times = HasTimes document
-Meets replay document PortCount = (1 ≤ length (ports_in document)) × (length (ports_in document) ≤ 16)
-Meets replay document PortNumbers = HasNumbers (ports_in document)
-Meets replay document RoleWord = All (HasWord (codes "role") role_word) (ports_in document)
-Meets replay document FormatWord = All (HasWord (codes "format") format_word) (ports_in document)
-Meets replay document PrefixTexts = HasPrefixTexts (prefixes_in document)
-Meets replay document PrefixRanges = HasPrefixRanges (prefixes_in document)
-Meets replay document MethodWord = All (HasWord (codes "method") method_word) (prefixes_in document)
-Meets replay document StreamInReplay = replay ≡ true → All (λ port. text_at (codes "format") port ≢ Some (format_word Stream)) (ports_in document)
+Meets replay document PortCount = (1 ≤ length (port_tables document)) × (length (port_tables document) ≤ 16)
+Meets replay document PortNumbers = HasNumbers (port_tables document)
+Meets replay document RoleWord = All (HasWord (codes "role") role_word) (port_tables document)
+Meets replay document FormatWord = All (HasWord (codes "format") format_word) (port_tables document)
+Meets replay document PrefixTexts = HasPrefixTexts (prefix_tables document)
+Meets replay document PrefixRanges = HasPrefixRanges (prefix_tables document)
+Meets replay document MethodWord = All (HasWord (codes "method") method_word) (prefix_tables document)
+Meets replay document StreamInReplay = replay ≡ true → All (λ port. text_at (codes "format") port ≢ Some (format_word Stream)) (port_tables document)
+Meets replay document VlanNumbers = HasVlanNumbers document
+Meets replay document TrunkRole = All HasTrunkRole (port_tables document)
+Meets replay document VlanCount = AreFewVlans (map vlans_in (port_tables document))
 
 -- the fault applies, and none with a lower number does
 pub record IsFirstFault (replay : Bool) (document : Members) (fault : Fault) : Type 0 where

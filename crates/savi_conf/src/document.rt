@@ -1,6 +1,6 @@
 //! What stands at the keys of a table of TOML.
 ghost use Rattle.std.specs.Prelude.{◌≡◌, IfOk, map, option_and_then, option_copied, option_map};
-ghost use Rattle.savi_conf.specs.Documents.{integer_at, tables_among, tables_at, tables_of, text_at};
+ghost use Rattle.savi_conf.specs.Documents.{integer_at, integers_among, integers_at, tables_among, tables_at, tables_of, text_at};
 ghost use Rattle.toml.specs.Data.{as_array, get_member};
 ghost use Rattle.toml.specs.View.{array_view, items_view, table_view, view};
 
@@ -32,6 +32,43 @@ pub(crate) fn integer_at(table: &Table, key: &str) -> Option<i64>
         Some(value) => value.as_integer(),
         None => None,
     }
+}
+
+// The integers of the array at a key, in order, where there is one.
+pub(crate) fn integers_at(
+    alloc: Global,
+    table: &Table,
+    key: &str,
+) -> Result<Option<Vec<i64>>, AllocError>
+    ensures { IfOk result (λ numbers. option_map (λ v. v.items) numbers ≡ integers_at key.now (table_view table.now)) }
+{
+    match value_at(table, key) {
+        Some(value) => integers_of(alloc, value),
+        None => Ok(None),
+    }
+}
+
+// The integers of a value that is an array, in order.
+fn integers_of(alloc: Global, value: &Value) -> Result<Option<Vec<i64>>, AllocError>
+    ensures { IfOk result (λ numbers. option_map (λ v. v.items) numbers ≡ option_map integers_among (as_array (view value.now))) }
+{
+    match value.as_array() {
+        Some(values) => Ok(Some(integers_among(alloc, values.as_slice())?)),
+        None => Ok(None),
+    }
+}
+
+// Those of some values that are integers, in order.
+fn integers_among(alloc: Global, values: &[Value]) -> Result<Vec<i64>, AllocError>
+    ensures { IfOk result (λ v. v.items ≡ integers_among (items_view values.now)) }
+{
+    let mut integers = Vec::new(alloc);
+    for value in values {
+        if let Some(number) = value.as_integer() {
+            integers.push(number)?;
+        }
+    }
+    Ok(integers)
 }
 
 // The tables at a key, in order.

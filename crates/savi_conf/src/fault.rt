@@ -38,19 +38,26 @@ pub enum Fault {
     FormatWord,
     /// 17: more than 32 prefixes, or a text that isn't a prefix's.
     PrefixTexts,
-    /// 18: two prefixes overlap, or one isn't one that a plan may name: it overlaps fe80::/64 or ff00::/8, or holds `::` or
-    /// `::1`.
+    /// 18: two prefixes of one VLAN overlap, or one isn't one that a plan may name: it overlaps fe80::/64 or ff00::/8, or
+    /// holds `::` or `::1`.
     PrefixRanges,
     /// 19: a method that isn't known.
     MethodWord,
     /// 20: a port with the format of streams, in a replay.
     StreamInReplay,
+    /// 22: the number of a VLAN that isn't from 1 to 4,094; a trunk that lists none, or one twice; a port with both `vlan` and
+    /// `trunk`.
+    VlanNumbers,
+    /// 23: a trunk that isn't trusted.
+    TrunkRole,
+    /// 24: more than 8 VLANs over all ports.
+    VlanCount,
 }
 
 impl Fault {
     ghost use Rattle.savi_conf.specs.Faults.{fault_number};
 
-    /// The number of the fault, from 2 to 20.
+    /// The number of the fault, from 2 to 20 or from 22 to 24.
     pub fn number(self) -> u8
         ensures { result ≡ fault_number self }
     {
@@ -74,6 +81,9 @@ impl Fault {
             Fault::PrefixRanges => 18,
             Fault::MethodWord => 19,
             Fault::StreamInReplay => 20,
+            Fault::VlanNumbers => 22,
+            Fault::TrunkRole => 23,
+            Fault::VlanCount => 24,
         }
     }
 }

@@ -15,9 +15,11 @@ ghost use Rattle.savi_conf.specs.Keys.{
   HasOnly,
   HasRequired,
   IsInteger,
+  IsIntegers,
   IsKnown,
   IsTables,
   IsText,
+  are_integers,
   port_keys,
   prefix_keys,
   top_keys,
@@ -29,17 +31,19 @@ ghost use Rattle.toml.specs.View.{items_view, table_view, view};
 use crate::document::value_at;
 use toml::{Table, Value};
 
-// The keys that a table may have, by the kind of the value, and those that it has to have.
+// The keys that a table may have, by the kind of the value, and those that it has to have. The arrays are of tables, the lists
+// of integers.
 #[derive(Clone, Copy)]
 pub(crate) struct KeyNames {
     texts: &'static [&'static str],
     integers: &'static [&'static str],
     arrays: &'static [&'static str],
+    lists: &'static [&'static str],
     required: &'static [&'static str],
 }
 
 impl KeyNames {
-    ghost use Rattle.savi_conf.specs.KeyNames.{keys_of};
+    ghost use Rattle.savi_conf.specs.KeyNames.{HasOtherKinds, IsOtherKey, keys_of};
 
     // The keys of the document.
     pub(crate) fn top() -> KeyNames
@@ -64,6 +68,7 @@ impl KeyNames {
                 "binding_s",
             ],
             arrays: &["port", "prefix"],
+            lists: &[],
             required: &["mac", "journal", "port"],
         }
     }
@@ -74,8 +79,9 @@ impl KeyNames {
     {
         KeyNames {
             texts: &["role", "format", "input", "output"],
-            integers: &["number"],
+            integers: &["number", "vlan"],
             arrays: &[],
+            lists: &["trunk"],
             required: &["number", "role", "input", "output"],
         }
     }
@@ -86,8 +92,9 @@ impl KeyNames {
     {
         KeyNames {
             texts: &["prefix", "method"],
-            integers: &[],
+            integers: &["vlan"],
             arrays: &[],
+            lists: &[],
             required: &["prefix", "method"],
         }
     }
@@ -95,6 +102,13 @@ impl KeyNames {
     // Whether the table may have the key.
     fn has(&self, key: &str) -> bool
         ensures { IsTrue result ↔ IsKnown (keys_of self.now) key.now }
+    {
+        self.has_other(key) || is_among(key, self.lists)
+    }
+
+    // Whether it may have the key with another value than a list.
+    fn has_other(&self, key: &str) -> bool
+        ensures { IsTrue result ↔ IsOtherKey (keys_of self.now) key.now }
     {
         is_among(key, self.texts) || is_among(key, self.integers) || is_among(key, self.arrays)
     }
@@ -120,6 +134,13 @@ impl KeyNames {
     // Whether what stands at each key has the kind of that key.
     pub(crate) fn has_kinds(&self, table: &Table) -> bool
         ensures { IsTrue result ↔ HasKinds (keys_of self.now) (table_view table.now) }
+    {
+        self.has_other_kinds(table) && has_lists(table, self.lists)
+    }
+
+    // The same of the keys of another value than a list.
+    fn has_other_kinds(&self, table: &Table) -> bool
+        ensures { IsTrue result ↔ HasOtherKinds (keys_of self.now) (table_view table.now) }
     {
         has_texts(table, self.texts)
             && has_integers(table, self.integers)
@@ -160,6 +181,12 @@ fn has_arrays(table: &Table, keys: &[&str]) -> bool
     keys.iter().all(|key| has_tables(table, key))
 }
 
+fn has_lists(table: &Table, keys: &[&str]) -> bool
+    ensures { IsTrue result ↔ All (λ key. IfSome (get_member key.now (table_view table.now)) IsIntegers) keys.now }
+{
+    keys.iter().all(|key| has_list(table, key))
+}
+
 fn has_all(table: &Table, keys: &[&str]) -> bool
     ensures { IsTrue result ↔ All (λ key. IsSome (get_member key.now (table_view table.now))) keys.now }
 {
@@ -195,6 +222,16 @@ fn has_tables(table: &Table, key: &str) -> bool
     }
 }
 
+// Whether what stands at a key, if anything, is an array of integers.
+fn has_list(table: &Table, key: &str) -> bool
+    ensures { IsTrue result ↔ IfSome (get_member key.now (table_view table.now)) IsIntegers }
+{
+    match value_at(table, key) {
+        Some(value) => is_array_of_integers(value),
+        None => true,
+    }
+}
+
 fn has_key(table: &Table, key: &str) -> bool
     ensures { IsTrue result ↔ IsSome (get_member key.now (table_view table.now)) }
 {
@@ -215,6 +252,26 @@ fn are_all_tables(values: &[Value]) -> bool
 {
     for value in values {
         if !value.is_table() {
+            return false;
+        }
+    }
+    true
+}
+
+fn is_array_of_integers(value: &Value) -> bool
+    ensures { IsTrue result ↔ IsIntegers (view value.now) }
+{
+    match value.as_array() {
+        Some(values) => are_all_integers(values.as_slice()),
+        None => false,
+    }
+}
+
+fn are_all_integers(values: &[Value]) -> bool
+    ensures { result ≡ are_integers (items_view values.now) }
+{
+    for value in values {
+        if !value.is_integer() {
             return false;
         }
     }

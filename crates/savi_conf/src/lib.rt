@@ -13,6 +13,7 @@ mod ports;
 mod prefixes;
 mod ranges;
 mod read;
+mod vlans;
 mod words;
 
 pub use fault::{ConfFault, Fault};

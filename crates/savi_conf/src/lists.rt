@@ -1,12 +1,14 @@
 //! The ports and the prefixes of a plan, in rising order.
-ghost use Rattle.std.specs.List.Sorted.{IsNonDecreasingBy, IsStrictlyIncreasing};
-ghost use Rattle.std.specs.Prelude.{◌≡◌, ◌≢◌, ◌≤◌, All, AllPairs, IfOk, IsPermutation, map};
+ghost use Rattle.std.specs.List.Sorted.{IsNonDecreasingBy, IsSortedByKey, IsStrictlyIncreasing};
+ghost use Rattle.std.specs.Ordering.{nat_cmp, ordering_then};
+ghost use Rattle.std.specs.Prelude.{◌≡◌, ◌≢◌, ◌≤◌, All, AllPairs, IfOk, IsPermutation, length, map, ℕ};
 ghost use Rattle.savi_conf.specs.PlanOf.{IsPortOf, IsPrefixOf, Lists, SayInOrder};
-ghost use Rattle.savi_conf.specs.Requirements.{HaveApartRanges, TellsPlanPrefix, number_in};
+ghost use Rattle.savi_conf.specs.Requirements.{AreFewVlans, HasTrunkRole, HaveApartRanges, TellsPlanPrefix, number_in, vlans_in};
 ghost use Rattle.savi_conf.specs.Told.{CanSayPort, CanSayPrefix};
 ghost use Rattle.savi_kinds.specs.Ports.{number_of};
-ghost use Rattle.savi_kinds.specs.Prefixes.{first_of, past_of};
-ghost use Rattle.savi_kinds.specs.ValidPlan.{IsPlanPrefix, nets_of, numbers_of};
+ghost use Rattle.savi_kinds.specs.Prefixes.{first_of};
+ghost use Rattle.savi_kinds.specs.ValidPlan.{HasPlanVlans, IsPlanPrefix, StandsBefore, nets_of, numbers_of};
+ghost use Rattle.savi_kinds.specs.Vlans.{IsVlan, vlans_of_ports};
 ghost use Rattle.toml.specs.View.{table_view};
 
 use crate::plan::{port_plan, prefix_plan};
@@ -18,8 +20,12 @@ use toml::Table;
 pub(crate) fn port_plans(alloc: Global, tables: &[&Table]) -> Result<Vec<PortPlan>, AllocError>
     requires each { All (λ t. CanSayPort (table_view t.now)) tables.now }
     requires different { AllPairs (λ t u. number_in (table_view t.now) ≢ number_in (table_view u.now)) tables.now }
+    requires trusted { All (λ t. HasTrunkRole (table_view t.now)) tables.now }
+    requires few { AreFewVlans (map (λ t. vlans_in (table_view t.now)) tables.now) }
     ensures lists { IfOk result (λ v. Lists IsPortOf (map (λ t. table_view t.now) tables.now) v.items) }
     ensures order { IfOk result (λ v. IsStrictlyIncreasing (numbers_of v.items)) }
+    ensures vlans { IfOk result (λ v. All HasPlanVlans v.items) }
+    ensures few { IfOk result (λ v. length (vlans_of_ports v.items) ≤ 8) }
 {
     let mut plans = told_ports(alloc, tables)?;
     sort_ports(&mut plans);
@@ -44,14 +50,15 @@ fn sort_ports(plans: &mut Vec<PortPlan>)
     plans.sort_unstable_by_key(|plan| plan.number.get());
 }
 
-// The prefixes that the tables say, in rising order of address. O(n log n).
+// The prefixes that the tables say, in rising order of VLAN and address. O(n log n).
 pub(crate) fn prefix_plans(alloc: Global, tables: &[&Table]) -> Result<Vec<PrefixPlan>, AllocError>
     requires each { All (λ t. CanSayPrefix (table_view t.now)) tables.now }
     requires planned { All (λ t. TellsPlanPrefix (table_view t.now)) tables.now }
     requires apart { AllPairs (λ t u. HaveApartRanges (table_view t.now) (table_view u.now)) tables.now }
     ensures lists { IfOk result (λ v. Lists IsPrefixOf (map (λ t. table_view t.now) tables.now) v.items) }
     ensures planned { IfOk result (λ v. All IsPlanPrefix (nets_of v.items)) }
-    ensures order { IfOk result (λ v. AllPairs (λ p q. past_of p ≤ first_of q) (nets_of v.items)) }
+    ensures vlans { IfOk result (λ v. All (λ p. IsVlan p.vlan) v.items) }
+    ensures order { IfOk result (λ v. AllPairs StandsBefore v.items) }
 {
     let mut plans = told_prefixes(alloc, tables)?;
     sort_prefixes(&mut plans);
@@ -71,7 +78,7 @@ fn told_prefixes(alloc: Global, tables: &[&Table]) -> Result<Vec<PrefixPlan>, Al
 
 fn sort_prefixes(plans: &mut Vec<PrefixPlan>)
     ensures permutation { IsPermutation plans.old.items plans.new.items }
-    ensures order { IsNonDecreasingBy (λ p. first_of p.prefix) plans.new.items }
+    ensures order { IsSortedByKey {K = ℕ × ℕ} (λ p. (p.vlan, first_of p.prefix)) (λ x y. ordering_then (nat_cmp x.0 y.0) (nat_cmp x.1 y.1)) plans.new.items }
 {
-    plans.sort_unstable_by_key(|plan| plan.prefix.net.0);
+    plans.sort_unstable_by_key(|plan| (plan.vlan, plan.prefix.net.0));
 }

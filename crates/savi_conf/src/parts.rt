@@ -11,22 +11,29 @@ ghost use Rattle.std.specs.Prelude.{
   All,
   true,
   length,
+  map,
   codes,
 };
 ghost use Rattle.savi_conf.specs.Documents.{text_at};
 ghost use Rattle.savi_conf.specs.KeyNames.{keys_of};
 ghost use Rattle.savi_conf.specs.Keys.{HasKinds, HasOnly, HasRequired};
 ghost use Rattle.savi_conf.specs.Requirements.{
+  AreFewVlans,
+  AreVlanNumbers,
   EachTable,
   HasBothControls,
   HasNumbers,
+  HasOneVlanKey,
   HasPrefixRanges,
   HasPrefixTexts,
+  HasTrunkRole,
+  HasVlanNumbers,
   IsFirstFault,
   IsSwitchMac,
   Meets,
-  ports_in,
-  prefixes_in,
+  port_tables,
+  prefix_tables,
+  vlans_in,
 };
 ghost use Rattle.savi_kinds.specs.PlanWords.{format_word, method_word, role_word};
 ghost use Rattle.savi_conf.specs.Words.{HasWord};
@@ -44,6 +51,9 @@ use crate::ports::{
     have_different_numbers, have_formats, have_no_stream, have_ports_numbers, have_roles,
 };
 use crate::prefixes::{have_apart_ranges, have_methods, have_prefix_texts, tell_plan_prefixes};
+use crate::vlans::{
+    are_all_vlan_numbers, are_few_vlans, have_one_vlan_key, have_prefix_vlans, have_trunk_roles,
+};
 use crate::words::{has_savi, has_unknown};
 use savi_kinds::{
     BYTES_MOST, DEPTH_MOST, ENTRIES_LEAST, ENTRIES_MOST, FRAME_OCTETS_MOST, Mac, PER_PORT_MOST,
@@ -52,7 +62,7 @@ use savi_kinds::{
 use toml::Table;
 
 // The requirements, in the order of their numbers.
-const FAULTS: [Fault; 19] = [
+const FAULTS: [Fault; 22] = [
     Fault::UnknownKey,
     Fault::WrongKind,
     Fault::MissingKey,
@@ -72,14 +82,18 @@ const FAULTS: [Fault; 19] = [
     Fault::PrefixRanges,
     Fault::MethodWord,
     Fault::StreamInReplay,
+    Fault::VlanNumbers,
+    Fault::TrunkRole,
+    Fault::VlanCount,
 ];
 
-// A document with the tables of its ports and prefixes.
+// A document with the tables of its ports and prefixes, and the numbers of each port's VLANs.
 #[derive(Clone, Copy)]
 pub(crate) struct Parts<'a> {
     pub(crate) document: &'a Table,
     pub(crate) ports: &'a [&'a Table],
     pub(crate) prefixes: &'a [&'a Table],
+    pub(crate) vlans: &'a [Vec<i64>],
     pub(crate) replay: bool,
 }
 
@@ -136,6 +150,9 @@ impl Parts<'_> {
             Fault::PrefixRanges => self.has_prefix_ranges(),
             Fault::MethodWord => self.has_methods(),
             Fault::StreamInReplay => self.fits_command(),
+            Fault::VlanNumbers => self.has_vlan_numbers(),
+            Fault::TrunkRole => self.has_trunk_roles(),
+            Fault::VlanCount => self.has_few_vlans(),
         }
     }
 
@@ -175,58 +192,86 @@ impl Parts<'_> {
 
     fn has_port_count(&self) -> bool
         requires { AreParts self.now }
-        ensures { IsTrue result ↔ ((1 ≤ length (ports_in (document_of self.now))) × (length (ports_in (document_of self.now)) ≤ 16)) }
+        ensures { IsTrue result ↔ ((1 ≤ length (port_tables (document_of self.now))) × (length (port_tables (document_of self.now)) ≤ 16)) }
     {
         !self.ports.is_empty() && self.ports.len() <= PORTS_MOST
     }
 
     fn has_port_numbers(&self) -> bool
         requires { AreParts self.now }
-        ensures { IsTrue result ↔ HasNumbers (ports_in (document_of self.now)) }
+        ensures { IsTrue result ↔ HasNumbers (port_tables (document_of self.now)) }
     {
         have_ports_numbers(self.ports) && have_different_numbers(self.ports)
     }
 
     fn has_roles(&self) -> bool
         requires { AreParts self.now }
-        ensures { IsTrue result ↔ All (HasWord (codes "role") role_word) (ports_in (document_of self.now)) }
+        ensures { IsTrue result ↔ All (HasWord (codes "role") role_word) (port_tables (document_of self.now)) }
     {
         have_roles(self.ports)
     }
 
     fn has_formats(&self) -> bool
         requires { AreParts self.now }
-        ensures { IsTrue result ↔ All (HasWord (codes "format") format_word) (ports_in (document_of self.now)) }
+        ensures { IsTrue result ↔ All (HasWord (codes "format") format_word) (port_tables (document_of self.now)) }
     {
         have_formats(self.ports)
     }
 
     fn has_prefix_texts(&self) -> bool
         requires { AreParts self.now }
-        ensures { IsTrue result ↔ HasPrefixTexts (prefixes_in (document_of self.now)) }
+        ensures { IsTrue result ↔ HasPrefixTexts (prefix_tables (document_of self.now)) }
     {
         self.prefixes.len() <= PREFIXES_MOST && have_prefix_texts(self.prefixes)
     }
 
     fn has_prefix_ranges(&self) -> bool
         requires { AreParts self.now }
-        ensures { IsTrue result ↔ HasPrefixRanges (prefixes_in (document_of self.now)) }
+        ensures { IsTrue result ↔ HasPrefixRanges (prefix_tables (document_of self.now)) }
     {
         tell_plan_prefixes(self.prefixes) && have_apart_ranges(self.prefixes)
     }
 
     fn has_methods(&self) -> bool
         requires { AreParts self.now }
-        ensures { IsTrue result ↔ All (HasWord (codes "method") method_word) (prefixes_in (document_of self.now)) }
+        ensures { IsTrue result ↔ All (HasWord (codes "method") method_word) (prefix_tables (document_of self.now)) }
     {
         have_methods(self.prefixes)
     }
 
     fn fits_command(&self) -> bool
         requires { AreParts self.now }
-        ensures { IsTrue result ↔ (self.now.replay ≡ true → All (λ port. text_at (codes "format") port ≢ Some (codes "stream")) (ports_in (document_of self.now))) }
+        ensures { IsTrue result ↔ (self.now.replay ≡ true → All (λ port. text_at (codes "format") port ≢ Some (codes "stream")) (port_tables (document_of self.now))) }
     {
         !self.replay || have_no_stream(self.ports)
+    }
+
+    fn has_vlan_numbers(&self) -> bool
+        requires { AreParts self.now }
+        ensures { IsTrue result ↔ HasVlanNumbers (document_of self.now) }
+    {
+        self.has_port_vlans() && have_prefix_vlans(self.prefixes)
+    }
+
+    fn has_port_vlans(&self) -> bool
+        requires { AreParts self.now }
+        ensures { IsTrue result ↔ (All HasOneVlanKey (port_tables (document_of self.now)) × All AreVlanNumbers (map vlans_in (port_tables (document_of self.now)))) }
+    {
+        have_one_vlan_key(self.ports) && are_all_vlan_numbers(self.vlans)
+    }
+
+    fn has_trunk_roles(&self) -> bool
+        requires { AreParts self.now }
+        ensures { IsTrue result ↔ All HasTrunkRole (port_tables (document_of self.now)) }
+    {
+        have_trunk_roles(self.ports)
+    }
+
+    fn has_few_vlans(&self) -> bool
+        requires { AreParts self.now }
+        ensures { IsTrue result ↔ AreFewVlans (map vlans_in (port_tables (document_of self.now))) }
+    {
+        are_few_vlans(self.vlans)
     }
 }
 

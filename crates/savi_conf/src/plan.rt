@@ -10,6 +10,7 @@ ghost use Rattle.std.specs.Prelude.{
   pos,
   IfOk,
   IfSome,
+  IsPermutation,
   IsSome,
   IsSomeAnd,
   Some,
@@ -22,9 +23,10 @@ ghost use Rattle.std.specs.Prelude.{
   option_map,
   true,
 };
+ghost use Rattle.std.specs.List.Sorted.{IsNonDecreasing, IsStrictlyIncreasing};
 ghost use Rattle.savi_conf.specs.Documents.{integer_or, text_at, text_or};
-ghost use Rattle.savi_conf.specs.PlanOf.{IsPortOf, IsPrefixOf};
-ghost use Rattle.savi_conf.specs.Requirements.{IsBetween, IsSwitchMac, number_in};
+ghost use Rattle.savi_conf.specs.PlanOf.{IsPortOf, IsPrefixOf, SaysVlan};
+ghost use Rattle.savi_conf.specs.Requirements.{AreVlanNumbers, IsBetween, IsSwitchMac, number_in, vlans_in};
 ghost use Rattle.savi_conf.specs.Told.{CanSayPort, CanSayPrefix};
 ghost use Rattle.savi_kinds.specs.PlanWords.{format_word, method_word, role_word, savi_word, unknown_word};
 ghost use Rattle.savi_conf.specs.Words.{HasWord};
@@ -33,12 +35,15 @@ ghost use Rattle.savi_kinds.specs.Ports.{number_of};
 ghost use Rattle.savi_kinds.specs.Macs.{is_group};
 ghost use Rattle.toml.specs.View.{table_view};
 
-use crate::document::text_at;
+use crate::document::{integers_at, text_at};
 use crate::numbers::integer_or;
 use crate::ports::number;
 use crate::prefixes::prefix_at;
+use crate::vlans::vlan;
 use crate::words;
-use savi_kinds::{Format, Mac, Method, Port, PortPlan, PrefixPlan, Role, Text, read_mac};
+use savi_kinds::{
+    Format, Mac, Method, Port, PortPlan, PrefixPlan, Role, Text, Vlan, Vlans, read_mac,
+};
 use std::alloc::{AllocError, Global};
 use toml::Table;
 
@@ -154,6 +159,7 @@ pub(crate) fn port_plan(alloc: Global, table: &Table) -> Result<PortPlan, AllocE
         format: port_format(table),
         input: text(alloc, table, "input")?,
         output: text(alloc, table, "output")?,
+        vlan: port_vlan(alloc, table)?,
     })
 }
 
@@ -198,6 +204,47 @@ fn port_format(table: &Table) -> Format
     }
 }
 
+fn port_vlan(alloc: Global, table: &Table) -> Result<Vlan, AllocError>
+    requires numbers { AreVlanNumbers (vlans_in (table_view table.now)) }
+    requires few { length (vlans_in (table_view table.now)) ≤ 8 }
+    ensures { IfOk result (SaysVlan (table_view table.now)) }
+{
+    match integers_at(alloc, table, "trunk")? {
+        Some(numbers) => Ok(Vlan::Trunk(trunk(numbers.as_slice()))),
+        None => Ok(Vlan::Access(vlan_number(vlan(table)))),
+    }
+}
+
+// The VLANs that a trunk lists, in rising order.
+fn trunk(numbers: &[i64]) -> Vlans
+    requires numbers { AreVlanNumbers numbers.now }
+    requires few { length numbers.now ≤ 8 }
+    ensures permutation { IsPermutation numbers.now (map (λ v. pos v) result.items) }
+    ensures order { IsStrictlyIncreasing result.items }
+{
+    let mut vlans = Vlans::new();
+    for number in numbers {
+        vlans.push(vlan_number(*number));
+    }
+    sort_vlans(&mut vlans);
+    vlans
+}
+
+fn sort_vlans(vlans: &mut Vlans)
+    ensures permutation { IsPermutation vlans.old.items vlans.new.items }
+    ensures order { IsNonDecreasing vlans.new.items }
+{
+    vlans.sort_unstable();
+}
+
+// The number of a VLAN.
+fn vlan_number(number: i64) -> u16
+    requires { IsBetween 1 4094 number }
+    ensures { pos result ≡ number }
+{
+    small(number) as u16
+}
+
 // The prefix that a table says.
 pub(crate) fn prefix_plan(table: &Table) -> PrefixPlan
     requires { CanSayPrefix (table_view table.now) }
@@ -207,6 +254,7 @@ pub(crate) fn prefix_plan(table: &Table) -> PrefixPlan
         Some(prefix) => PrefixPlan {
             prefix,
             method: prefix_method(table),
+            vlan: vlan_number(vlan(table)),
         },
         None => unreachable!(),
     }

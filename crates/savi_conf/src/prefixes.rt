@@ -1,15 +1,16 @@
 //! What the prefixes of a configuration have to meet.
 ghost use Rattle.std.specs.Prelude.{◌≡◌, ◌↔◌, IsTrue, IfSome, IfNone, All, AllPairs, codes};
 ghost use Rattle.savi_conf.specs.Documents.{text_at};
-ghost use Rattle.savi_conf.specs.Requirements.{HasPrefix, HaveApartRanges, TellsPlanPrefix, IsSomePrefix};
+ghost use Rattle.savi_conf.specs.Requirements.{HasPrefix, HaveApartRanges, TellsPlanPrefix, IsSomePrefix, vlan_in};
 ghost use Rattle.savi_kinds.specs.PlanWords.{method_word};
 ghost use Rattle.savi_conf.specs.Words.{HasWord};
-ghost use Rattle.savi_kinds.specs.Prefixes.{IsPrefix};
+ghost use Rattle.savi_kinds.specs.Prefixes.{AreApart, IsPrefix};
 ghost use Rattle.savi_kinds.specs.declared.address.Prefix.{Prefix};
 ghost use Rattle.toml.specs.View.{table_view};
 
 use crate::document::text_at;
 use crate::ranges::{are_apart, is_plan_prefix};
+use crate::vlans::vlan;
 use crate::words::has_method;
 use savi_kinds::{Prefix, read_prefix};
 use toml::Table;
@@ -64,7 +65,7 @@ fn tells_plan_prefix(table: &Table) -> bool
     }
 }
 
-// Whether no two prefixes have an address in common.
+// Whether no two prefixes of one VLAN have an address in common.
 pub(crate) fn have_apart_ranges(prefixes: &[&Table]) -> bool
     ensures { IsTrue result ↔ AllPairs (λ t u. HaveApartRanges (table_view t.now) (table_view u.now)) prefixes.now }
 {
@@ -84,6 +85,18 @@ fn are_apart_from(prefixes: &[&Table], other: &Table) -> bool
 
 fn are_apart_ranges(one: &Table, other: &Table) -> bool
     ensures { IsTrue result ↔ HaveApartRanges (table_view one.now) (table_view other.now) }
+{
+    !are_of_one_vlan(one, other) || tell_apart_ranges(one, other)
+}
+
+fn are_of_one_vlan(one: &Table, other: &Table) -> bool
+    ensures { IsTrue result ↔ (vlan_in (table_view one.now) ≡ vlan_in (table_view other.now)) }
+{
+    vlan(one) == vlan(other)
+}
+
+fn tell_apart_ranges(one: &Table, other: &Table) -> bool
+    ensures { IsTrue result ↔ ((p q : Prefix) → HasPrefix (table_view one.now) p → HasPrefix (table_view other.now) q → AreApart p q) }
 {
     match (prefix_at(one), prefix_at(other)) {
         (Some(prefix), Some(other_prefix)) => are_apart(prefix, other_prefix),

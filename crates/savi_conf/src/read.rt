@@ -1,14 +1,14 @@
 //! A configuration is read: its text, its faults, its plan.
 ghost use Rattle.std.specs.List.Sorted.{IsStrictlyIncreasing};
-ghost use Rattle.std.specs.Prelude.{◌≡◌, ◌≤◌, ◌⊎◌, All, AllPairs, IfOk, codes, option_map};
+ghost use Rattle.std.specs.Prelude.{◌≡◌, ◌≤◌, ◌⊎◌, All, AllPairs, IfOk, codes, length, option_map};
 ghost use Rattle.savi_conf.specs.Answers.{IsAnswer, IsPlanAnswer};
 ghost use Rattle.savi_conf.specs.Documents.{text_at};
 ghost use Rattle.savi_conf.specs.Parts.{AreParts, document_of};
 ghost use Rattle.savi_conf.specs.PlanOf.{IsPlanOf, IsPortOf, IsPrefixOf, Lists};
-ghost use Rattle.savi_conf.specs.Requirements.{HasBothControls, Meets, ports_in, prefixes_in};
+ghost use Rattle.savi_conf.specs.Requirements.{HasBothControls, Meets, port_tables, prefix_tables};
 ghost use Rattle.savi_conf.specs.declared.fault.Fault.{Fault};
-ghost use Rattle.savi_kinds.specs.Prefixes.{first_of, past_of};
-ghost use Rattle.savi_kinds.specs.ValidPlan.{IsPlanPrefix, IsValidPlan, nets_of, numbers_of};
+ghost use Rattle.savi_kinds.specs.ValidPlan.{HasPlanVlans, IsPlanPrefix, IsValidPlan, StandsBefore, nets_of, numbers_of};
+ghost use Rattle.savi_kinds.specs.Vlans.{IsVlan, vlans_of_ports};
 ghost use Rattle.toml.specs.Errors.{IsMemory};
 ghost use Rattle.toml.specs.View.{table_view};
 
@@ -21,6 +21,7 @@ use crate::numbers::{
 };
 use crate::parts::Parts;
 use crate::plan::{drops_unknown, is_savi_on, natural_at, small_at, switch_mac, text};
+use crate::vlans::vlans_of_each;
 use savi_kinds::{Plan, PortPlans, PrefixPlans, Text};
 use std::alloc::{AllocError, Global};
 use toml::Table;
@@ -36,9 +37,10 @@ const TOO_LONG: u8 = 1;
 /// Reads a configuration: a document of TOML of at most `OCTETS_MOST` octets, for a replay of captures where `replay`
 /// says so.
 ///
-/// `docs/CONFIGURATION.md` has the keys and the numbers of the faults. The plan's ports are in rising order of number and
-/// its prefixes in rising order of address. Of several faults the one with the least number is answered. Beside the cost of
-/// the reader of TOML this is O(n²) in the number of ports and of prefixes.
+/// `docs/CONFIGURATION.md` has the keys and the numbers of the faults. The plan's ports are in rising order of number, its
+/// prefixes in rising order of VLAN and address, and the VLANs of a trunk in rising order. Of several faults the one with the
+/// least number is answered. Beside the cost of the reader of TOML this is O(n²) in the number of ports, of prefixes and of
+/// VLANs.
 ///
 /// # Errors
 ///
@@ -77,10 +79,14 @@ fn plan_in(alloc: Global, document: &Table, replay: bool) -> Result<Plan, ConfFa
     let Ok(prefixes) = tables_at(alloc, document, "prefix") else {
         return Err(ConfFault::NoMemory);
     };
+    let Ok(vlans) = vlans_of_each(alloc, ports.as_slice()) else {
+        return Err(ConfFault::NoMemory);
+    };
     let parts = Parts {
         document,
         ports: ports.as_slice(),
         prefixes: prefixes.as_slice(),
+        vlans: vlans.as_slice(),
         replay,
     };
     match parts.first_fault() {
@@ -140,8 +146,10 @@ fn control_names(alloc: Global, document: &Table) -> Result<Option<(Text, Text)>
 fn ports_of(alloc: Global, parts: &Parts<'_>) -> Result<PortPlans, AllocError>
     requires parts { AreParts parts.now }
     requires meets { (fault : Fault) → Meets parts.now.replay (document_of parts.now) fault }
-    ensures lists { IfOk result (Lists IsPortOf (ports_in (document_of parts.now))) }
+    ensures lists { IfOk result (Lists IsPortOf (port_tables (document_of parts.now))) }
     ensures order { IfOk result (λ plans. IsStrictlyIncreasing (numbers_of plans)) }
+    ensures vlans { IfOk result (All HasPlanVlans) }
+    ensures few { IfOk result (λ plans. length (vlans_of_ports plans) ≤ 8) }
 {
     Ok(PortPlans::new(port_plans(alloc, parts.ports)?))
 }
@@ -150,9 +158,10 @@ fn ports_of(alloc: Global, parts: &Parts<'_>) -> Result<PortPlans, AllocError>
 fn prefixes_of(alloc: Global, parts: &Parts<'_>) -> Result<PrefixPlans, AllocError>
     requires parts { AreParts parts.now }
     requires meets { (fault : Fault) → Meets parts.now.replay (document_of parts.now) fault }
-    ensures lists { IfOk result (Lists IsPrefixOf (prefixes_in (document_of parts.now))) }
+    ensures lists { IfOk result (Lists IsPrefixOf (prefix_tables (document_of parts.now))) }
     ensures planned { IfOk result (λ plans. All IsPlanPrefix (nets_of plans)) }
-    ensures order { IfOk result (λ plans. AllPairs (λ p q. past_of p ≤ first_of q) (nets_of plans)) }
+    ensures vlans { IfOk result (All (λ p. IsVlan p.vlan)) }
+    ensures order { IfOk result (AllPairs StandsBefore) }
 {
     Ok(PrefixPlans::new(prefix_plans(alloc, parts.prefixes)?))
 }

@@ -24,7 +24,8 @@ use Rattle.savi_history.specs.Moments.{moment_at}
 use Rattle.savi_history.specs.Judged.{judged_long}
 use Rattle.savi_history.specs.Outs.{outs}
 use Rattle.savi_history.specs.Queues.{cuts, probes, lost}
-use Rattle.savi_history.specs.Events.{the_vlan, verdict_of}
+use Rattle.savi_history.specs.Events.{verdict_of}
+use Rattle.savi_history.specs.Vlans.{vlan_of_frame}
 use Rattle.savi_history.specs.Events as events
 use Rattle.savi_core.specs.Machines.{Machine, base_of}
 use Rattle.savi_core.specs.Steps.{entry_of}
@@ -37,13 +38,13 @@ made by moment act verdict out cut queued missed = record { by = by; moment = mo
 
 -- an entry whose parts are those of a frame's row is that row's
 pub frame_entry_is : (m : Machine) (port : Port) (stamp : ℕ) (octets : List ℕ) (by moment : ℕ) (act : Act) (verdict : Verdict) (out cut : PortSet) (queued missed : ℕ) → by ≡ pass_of m.plan (Ingress port) → moment ≡ moment_at (base_of m) m.past stamp → act ≡ events.frame_act m.past port stamp octets → verdict ≡ verdict_of m.plan (base_of m) m.past port stamp octets
-    → out ≡ outs the_vlan m.plan (base_of m) m.past (number_of port) (moment_at (base_of m) m.past stamp) octets verdict → cut ≡ cuts m.plan (base_of m) m.past (events.frame_act m.past port stamp octets) octets out
+    → out ≡ outs (vlan_of_frame m.plan (number_of port) octets) m.plan (base_of m) m.past (number_of port) (moment_at (base_of m) m.past stamp) octets verdict → cut ≡ cuts m.plan (base_of m) m.past (events.frame_act m.past port stamp octets) octets out
     → queued ≡ probes m.plan (base_of m) m.past (events.frame_act m.past port stamp octets) octets → missed ≡ lost m.plan (base_of m) m.past (events.frame_act m.past port stamp octets) octets
     → made by moment act verdict out cut queued missed ≡ entry_of m (events.Frame port stamp octets)
 frame_entry_is m port stamp octets by moment act verdict out cut queued missed by_is moment_is act_is verdict_is out_is cut_is queued_is missed_is =
     let framed = events.frame_act m.past port stamp octets in
     let goes : out ≡ events.outs_of m.plan (base_of m) m.past port stamp octets =
-    out_is ∙ ap (λ (v : Verdict). outs the_vlan m.plan (base_of m) m.past (number_of port) (moment_at (base_of m) m.past stamp) octets v) verdict_is in
+    out_is ∙ ap (λ (v : Verdict). outs (vlan_of_frame m.plan (number_of port) octets) m.plan (base_of m) m.past (number_of port) (moment_at (base_of m) m.past stamp) octets v) verdict_is in
     let left_out : cut ≡ cuts m.plan (base_of m) m.past framed octets (events.outs_of m.plan (base_of m) m.past port stamp octets) =
     cut_is ∙ ap (λ (o : PortSet). cuts m.plan (base_of m) m.past framed octets o) goes in
     cc (by_is, moment_is, act_is, verdict_is, goes, left_out, queued_is, missed_is)

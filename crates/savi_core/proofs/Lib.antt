@@ -22,6 +22,7 @@ pub mod Leaving
 pub mod Turned
 pub mod Knowing
 pub mod Telling
+pub mod Together
 pub mod AgedAndJudged
 pub mod Moving
 pub mod FrameEntries
@@ -31,4 +32,16 @@ pub mod Refusing
 pub mod Tallying
 pub mod Shown
 pub mod Keeping
+pub mod ShownSets
 pub mod Answering
+pub mod Everywhere
+pub mod Going
+pub mod Granting
+pub mod SetLoops
+pub mod Rounds
+pub mod Ageing
+pub mod AgedTo
+pub mod Judgements
+pub mod Ordering
+pub mod VlanPlaces
+pub mod SetPlaces

@@ -1,5 +1,6 @@
 -- A frame is offered to its ports one after another.
 use Rattle.std.proofs.Common.{ℕ, ◌≡◌, ◌≢◌, ◌<◌, ◌≤◌, ◌==◌, ◌&&◌, ◌||◌, not, Bool, true, false, if◌then◌else◌, List, length, map, get_or, set, inl, inr, refl, sym, ap, subst, ◌∙◌, arith, length-set, get_or-set_same, get_or-set_other}
+use Rattle.std.proofs.Math.Bool.{and-true}
 use Rattle.std.specs.List.{filter}
 use Rattle.std.proofs.lemmas.List.{length-map, get_or-map, ext_get_or}
 use Rattle.std.proofs.lemmas.Bool.{cases_eq, eq-eqb, eqb-true, ne_eqb, and_parts}
@@ -59,10 +60,6 @@ and_false : (b : Bool) → (b && false) ≡ false
 and_false true = refl
 and_false false = refl
 
-and_true : (b : Bool) → (b && true) ≡ b
-and_true true = refl
-and_true false = refl
-
 flag_at : (flag : Bool) → ((flag && true) || (flag && false)) ≡ (flag && true)
 flag_at true = refl
 flag_at false = refl
@@ -120,7 +117,7 @@ module _ {A : Type 0} (item : A) (outs left cuts : PortSet) (old now : List (Lan
             | inr other ↦
                 let n = (get_or old k d).number in
                 let as_before : is_member left' n ≡ is_member left n =
-                fewer n (low_at k d inside) ∙ ap (λ (b : Bool). is_member left n && not b) (ne_eqb n m (other_number k d inside other)) ∙ and_true (is_member left n) in
+                fewer n (low_at k d inside) ∙ ap (λ (b : Bool). is_member left n && not b) (ne_eqb n m (other_number k d inside other)) ∙ and-true (is_member left n) in
                 get_or-set_other now p k v d other ∙ was.lanes k d inside
                 ∙ ap (λ (b : Bool). if b then get_or old k d else with_frame item outs (get_or old k d)) (sym as_before)
           ];
@@ -142,5 +139,5 @@ module _ {A : Type 0} (item : A) (outs left cuts : PortSet) (old now : List (Lan
             let within : k < length old = omega (arith, inside, was.size) in
             was.lanes k d within ∙ left_at (is_member left (get_or old k d).number) (get_or old k d) (with_frame item outs (get_or old k d)) (gone (get_or old k d).number)
             ∙ sym (get_or-map (with_frame item outs) old k d d within)),
-        same_members cuts (cut_at outs old) (λ n least. was.cuts_are n least ∙ ap (λ (b : Bool). is_member (cut_at outs old) n && not b) (gone n) ∙ and_true (is_member (cut_at outs old) n)),
+        same_members cuts (cut_at outs old) (λ n least. was.cuts_are n least ∙ ap (λ (b : Bool). is_member (cut_at outs old) n && not b) (gone n) ∙ and-true (is_member (cut_at outs old) n)),
       )

@@ -1,15 +1,17 @@
 -- A table of the places of ports, by their numbers.
-use Rattle.std.proofs.Common.{ℕ, zero, suc, replicate, ◌≡◌, ◌≢◌, ◌+◌, ◌<◌, ◌≤◌, ◌==◌, List, [], ◌∷◌, length, get_or, set, inl, inr, refl, sym, ap, ◌∙◌, arith, length-set, get_or-set_same, get_or-set_other}
+use Rattle.std.proofs.Common.{ℕ, zero, suc, replicate, ◌≡◌, ◌≢◌, ◌+◌, ◌<◌, ◌≤◌, ◌==◌, true, false, Option, Some, None, IfSome, IfNone, Bor, List, [], ◌∷◌, length, get_or, set, inl, inr, refl, sym, ap, ◌∙◌, arith, length-set, get_or-set_same, get_or-set_other}
 use Rattle.std.specs.List.{list_any}
 use Rattle.std.proofs.lemmas.List.Folds.{list_any_at}
-use Rattle.std.proofs.lemmas.Bool.{cases_Bool, cases_eq, eq-eqb, false≢true, cond-true, cond-false}
+use Rattle.std.proofs.lemmas.Bool.{cases_Bool, cases_eq, eq-eqb, false≢true, cond-true, cond-false, le-ltb, lt-ltb}
+use Rattle.std.specs.Slice.{IsItemAt}
+use Rattle.savi_kinds.specs.declared.plan.Plan.{Plan}
 use Rattle.savi_kinds.specs.declared.plan.PortPlan.{PortPlan}
-use Rattle.savi_kinds.specs.declared.plan.Role.TheVariants.{Host}
 use Rattle.savi_kinds.specs.Ports.{number_of}
+use Rattle.savi_kinds.specs.Vlans.{vlan_among}
 use Rattle.savi_kinds.specs.ValidPlan.{numbers_of}
-use Rattle.savi_history.specs.Passes.{place_among, role_among}
+use Rattle.savi_history.specs.Passes.{has_port, place_among, place_of, role_among, role_of}
 use Rattle.savi_history.proofs.PortPlaces.{placed_among}
-use Rattle.savi_core.proofs.Places.{absent}
+use Rattle.savi_core.proofs.Places.{absent, has_port-place}
 
 -- the places of the first of these numbers stand in the table, and at all others how many numbers there are
 pub record HasPlaces (ns : List ℕ) (count : ℕ) (places : List ℕ) : Type 0 where
@@ -78,14 +80,43 @@ role_at (p ∷ ports) number d within =
           ap (λ (k : ℕ). (get_or (p ∷ ports) k d).role) e ∙ role_at ports number d (omega (arith, within, e)) ∙ sym (cond-false (number_of p.number == number) p.role (role_among ports number) other)
     ]
 
-pub role_none : (ports : List PortPlan) (number : ℕ) → length ports ≤ place_among (numbers_of ports) number → Host ≡ role_among ports number
-role_none [] number past = refl
-role_none (p ∷ ports) number past =
+-- the VLANs of the port at its place
+pub vlan_at : (ports : List PortPlan) (number : ℕ) (d : PortPlan) → place_among (numbers_of ports) number < length ports → Some (get_or ports (place_among (numbers_of ports) number) d).vlan ≡ vlan_among ports number
+vlan_at [] number d within = absurd (omega (arith, within))
+vlan_at (p ∷ ports) number d within =
+    elim (cases_Bool (number_of p.number == number)) [
+      | inl here ↦
+          let e : place_among (numbers_of (p ∷ ports)) number ≡ 0 = cond-true (number_of p.number == number) 0 (suc (place_among (numbers_of ports) number)) here in
+          ap (λ (k : ℕ). Some (get_or (p ∷ ports) k d).vlan) e ∙ sym (cond-true (number_of p.number == number) (Some p.vlan) (vlan_among ports number) here)
+      | inr other ↦
+          let e : place_among (numbers_of (p ∷ ports)) number ≡ suc (place_among (numbers_of ports) number) = cond-false (number_of p.number == number) 0 (suc (place_among (numbers_of ports) number)) other in
+          ap (λ (k : ℕ). Some (get_or (p ∷ ports) k d).vlan) e ∙ vlan_at ports number d (omega (arith, within, e)) ∙ sym (cond-false (number_of p.number == number) (Some p.vlan) (vlan_among ports number) other)
+    ]
+
+pub vlan_none : (ports : List PortPlan) (number : ℕ) → length ports ≤ place_among (numbers_of ports) number → None ≡ vlan_among ports number
+vlan_none [] number past = refl
+vlan_none (p ∷ ports) number past =
     elim (cases_Bool (number_of p.number == number)) [
       | inl here ↦
           let e : place_among (numbers_of (p ∷ ports)) number ≡ 0 = cond-true (number_of p.number == number) 0 (suc (place_among (numbers_of ports) number)) here in
           absurd (omega (arith, past, e))
       | inr other ↦
           let e : place_among (numbers_of (p ∷ ports)) number ≡ suc (place_among (numbers_of ports) number) = cond-false (number_of p.number == number) 0 (suc (place_among (numbers_of ports) number)) other in
-          role_none ports number (omega (arith, past, e)) ∙ sym (cond-false (number_of p.number == number) p.role (role_among ports number) other)
+          vlan_none ports number (omega (arith, past, e)) ∙ sym (cond-false (number_of p.number == number) (Some p.vlan) (vlan_among ports number) other)
     ]
+
+-- what is read at the place of a port
+
+pub found_role : (plan : Plan) (number : ℕ) (own : Option (Bor PortPlan)) → IsItemAt plan.ports (place_of plan number) own → IfSome own (λ p. (has_port plan number ≡ true) × (p.now.role ≡ role_of plan number))
+found_role plan number None at = tt
+found_role plan number (Some own) at =
+    let within : place_of plan number < length plan.ports = at.3.0 in
+    (sym (has_port-place plan number) ∙ lt-ltb (place_of plan number) (length plan.ports) within, ap (λ (p : PortPlan). p.role) at.1 ∙ role_at plan.ports number own.now within)
+
+pub found_vlan : (plan : Plan) (number : ℕ) (own : Option (Bor PortPlan)) → IsItemAt plan.ports (place_of plan number) own → IfSome own (λ p. vlan_among plan.ports number ≡ Some p.now.vlan)
+found_vlan plan number None at = tt
+found_vlan plan number (Some own) at = sym (ap (λ (p : PortPlan). Some p.vlan) at.1 ∙ vlan_at plan.ports number own.now at.3.0)
+
+pub found_none : (plan : Plan) (number : ℕ) (own : Option (Bor PortPlan)) → IsItemAt plan.ports (place_of plan number) own → IfNone own ((has_port plan number ≡ false) × (vlan_among plan.ports number ≡ None))
+found_none plan number None at = (sym (has_port-place plan number) ∙ le-ltb (place_of plan number) (length plan.ports) at.3, sym (vlan_none plan.ports number at.3))
+found_none plan number (Some own) at = tt

@@ -1,5 +1,5 @@
 -- What a core keeps: how it begins, and after one more row.
-use Rattle.std.proofs.Common.{◌-◌, nat_le, ℕ, zero, suc, replicate, ◌≡◌, ◌+◌, ◌*◌, ◌<◌, ◌≤◌, ◌==◌, ◌&&◌, ◌||◌, cond, Bool, true, false, List, [], ◌∷◌, ◌++◌, length, map, get_or, inl, inr, refl, sym, ap, subst, ◌∙◌, arith, length-append}
+use Rattle.std.proofs.Common.{◌-◌, nat_le, ℕ, zero, suc, replicate, ◌≡◌, ◌+◌, ◌*◌, ◌<◌, ◌≤◌, ◌==◌, ◌&&◌, ◌||◌, cond, Bool, true, false, Option, Some, List, [], ◌∷◌, ◌++◌, length, map, get_or, inl, inr, refl, sym, ap, subst, ◌∙◌, arith, length-append}
 use Rattle.std.specs.Prelude.{All, reverse}
 use Rattle.std.proofs.lemmas.List.{length-reverse, length-map, reverse-append, get_or-map}
 use Rattle.std.proofs.lemmas.List.Elements.{All-nil, All-cons}
@@ -8,7 +8,9 @@ use Rattle.savi_kinds.specs.declared.plan.Plan.{Plan}
 use Rattle.savi_kinds.specs.declared.plan.PortPlan.{PortPlan}
 use Rattle.savi_kinds.specs.declared.plan.Role.{Role}
 use Rattle.savi_kinds.specs.declared.entry.Who.{Who}
+use Rattle.savi_kinds.specs.declared.plan.Vlan.{Vlan}
 use Rattle.savi_kinds.specs.Ports.{number_of}
+use Rattle.savi_kinds.specs.Vlans.{numbers_of_vlan, vlan_among}
 use Rattle.savi_kinds.specs.ValidPlan.{IsValidPlan, numbers_of}
 use Rattle.egress_ring.specs.declared.item.Item.{Item as Queued}
 use Rattle.hist_store.specs.Rows.{Row, held}
@@ -21,7 +23,7 @@ use Rattle.savi_history.specs.Events.{Event, row_of}
 use Rattle.savi_history.specs.Legal.{MayCome}
 use Rattle.savi_history.proofs.Depth.{queue_within}
 use Rattle.savi_history.proofs.Starting.{empty_within}
-use Rattle.savi_core.specs.Lanes.{Lane, empty_lane, lane_of}
+use Rattle.savi_core.specs.Lanes.{Lane, empty_lane, lane_of, numbers_by}
 use Rattle.savi_core.specs.Waits.{queued_item, shown_lane, IsThere, AreThere, Show}
 use Rattle.savi_history.specs.ShutPorts.{shut_after, is_shut}
 use Rattle.savi_history.proofs.Directing.{and-false}
@@ -37,7 +39,7 @@ use Rattle.savi_core.specs.PassMarks.{open_among}
 use Rattle.savi_core.proofs.Ending.{none_ended}
 use Rattle.savi_core.specs.Remembers.{CoreState, Remembers}
 use Rattle.savi_core.proofs.Places.{length-numbers, place_at, pass_within}
-use Rattle.savi_core.proofs.PlaceTable.{role_at}
+use Rattle.savi_core.proofs.PlaceTable.{role_at, vlan_at}
 use Rattle.savi_core.proofs.Lanes.{laned}
 use Rattle.savi_core.proofs.Showing.{lane_at}
 use Rattle.savi_core.proofs.Counting.{open_below-le, waiting_at-le}
@@ -63,12 +65,24 @@ start_role plan k d valid within =
     sym (role_at plan.ports (number_of (get_or plan.ports k d).number) d (omega (arith, place_is, within)))
     ∙ ap (λ (n : ℕ). (get_or plan.ports n d).role) place_is
 
+-- so are its VLANs
+start_vlan : (plan : Plan) (k : ℕ) (d : PortPlan) → IsValidPlan plan → k < length plan.ports → vlan_among plan.ports (number_of (get_or plan.ports k d).number) ≡ Some (get_or plan.ports k d).vlan
+start_vlan plan k d valid within =
+    let in_numbers : k < length (numbers_of plan.ports) = omega (arith, within, length-numbers plan.ports) in
+    let number : PortPlan → ℕ = λ p. number_of p.number in
+    let number_is : get_or (numbers_of plan.ports) k 0 ≡ number_of (get_or plan.ports k d).number = get_or-map number plan.ports k d 0 within in
+    let place_is : place_among (numbers_of plan.ports) (number_of (get_or plan.ports k d).number) ≡ k = ap (place_among (numbers_of plan.ports)) (sym number_is) ∙ place_at (numbers_of plan.ports) k valid.ports in_numbers in
+    sym (vlan_at plan.ports (number_of (get_or plan.ports k d).number) d (omega (arith, place_is, within)))
+    ∙ ap (λ (n : ℕ). Some (get_or plan.ports n d).vlan) place_is
+
 start_shown : (plan : Plan) (ports : List PortPlan) → ((k : ℕ) (d : PortPlan) → k < length ports → role_of plan (number_of (get_or ports k d).number) ≡ (get_or ports k d).role)
-    → map (shown_lane plan.mac []) (map (empty_lane plan.depth) ports) ≡ map (lane_of plan empty []) (numbers_of ports)
-start_shown plan [] roles = refl
-start_shown plan (p ∷ ports) roles =
-    ap (λ (role : Role). laned plan.depth (number_of p.number) (is_trusted role) plan.depth [] ∷ map (shown_lane plan.mac []) (map (empty_lane plan.depth) ports)) (sym (roles 0 p (omega arith)))
-    ∙ ap (λ lanes. lane_of plan empty [] (number_of p.number) ∷ lanes) (start_shown plan ports (λ k d within. roles (suc k) d (omega (arith, within))))
+    → ((k : ℕ) (d : PortPlan) → k < length ports → vlan_among plan.ports (number_of (get_or ports k d).number) ≡ Some (get_or ports k d).vlan)
+    → map (shown_lane plan []) (map (empty_lane plan.depth) ports) ≡ map (lane_of plan empty []) (numbers_of ports)
+start_shown plan [] roles vlans = refl
+start_shown plan (p ∷ ports) roles vlans =
+    ap (λ (role : Role). laned plan.depth (number_of p.number) (is_trusted role) (numbers_of_vlan p.vlan) plan.depth [] ∷ map (shown_lane plan []) (map (empty_lane plan.depth) ports)) (sym (roles 0 p (omega arith)))
+    ∙ ap (λ (vlan : Option Vlan). laned plan.depth (number_of p.number) (is_trusted (role_of plan (number_of p.number))) (numbers_by vlan) plan.depth [] ∷ map (shown_lane plan []) (map (empty_lane plan.depth) ports)) (sym (vlans 0 p (omega arith)))
+    ∙ ap (λ lanes. lane_of plan empty [] (number_of p.number) ∷ lanes) (start_shown plan ports (λ k d within. roles (suc k) d (omega (arith, within))) (λ k d within. vlans (suc k) d (omega (arith, within))))
 
 start_there : (depth : ℕ) (ports : List PortPlan) → All (AreThere []) (map (empty_lane depth) ports)
 start_there depth [] = All-nil (AreThere [])
@@ -92,7 +106,7 @@ remembers_start plan lanes valid are = record {
   shut_inside = λ number shut. absurd (false≢true (sym (ap (λ (f : ℕ → Bool). f number) none_shut) ∙ shut));
   queues = record {
     there = subst (λ (ls : List (Lane Queued)). All (AreThere []) ls) (sym are) (start_there plan.depth plan.ports);
-    same = ap (map (shown_lane plan.mac [])) are ∙ start_shown plan plan.ports (λ k d within. start_role plan k d valid within);
+    same = ap (map (shown_lane plan [])) are ∙ start_shown plan plan.ports (λ k d within. start_role plan k d valid within) (λ k d within. start_vlan plan k d valid within);
   };
   octets = omega arith;
   room = λ near. absurd (omega (arith, near, valid.entries.0));
@@ -147,7 +161,7 @@ module _ {k : CoreState} (was : Remembers k) where
   -- how many items wait there
   pub waits_at : (number p : ℕ) (d : Lane Queued) → has_port k.plan number ≡ true → p ≡ place_of k.plan number → length (queue k.plan k.base number (reverse k.rows)) ≡ length (get_or k.lanes p d).items
   waits_at number p d known place_is =
-      ap (λ (lane : Lane Item). length lane.items) (sym (lane_at was.queues number p d known place_is)) ∙ length-map (get_or k.lanes p d).items (queued_item k.plan.mac k.rows)
+      ap (λ (lane : Lane Item). length lane.items) (sym (lane_at was.queues number p d known place_is)) ∙ length-map (get_or k.lanes p d).items (queued_item k.plan k.rows (get_or k.lanes p d).number)
 
   pub few_to_come : still_to_come k.plan k.base (reverse k.rows) ≤ 4130
   few_to_come =

@@ -1,21 +1,16 @@
 -- Numbers that rise, as a part of all numbers between two.
-use Rattle.std.proofs.Common.{◌≡◌, ◌≢◌, ℕ, zero, suc, ◌+◌, ◌<◌, ◌≤◌, ◌==◌, ◌||◌, Bool, true, false, if◌then◌else◌, List, [], ◌∷◌, length, get_or, refl, sym, ap, ◌∙◌, subst, inl, inr, arith}
+use Rattle.std.proofs.Common.{◌≡◌, ◌≢◌, ℕ, zero, suc, ◌+◌, ◌<◌, ◌≤◌, ◌==◌, ◌||◌, Bool, true, false, if◌then◌else◌, List, [], ◌∷◌, refl, sym, ap, ◌∙◌, subst, inl, inr, arith}
 use Rattle.std.specs.List.{filter, range_with_len}
-use Rattle.std.specs.List.Sorted.{IsStrictlyIncreasing}
 use Rattle.std.proofs.lemmas.Bool.{cases_eq, eq-eqb, ne_eqb, or_left, or_right, false≢true}
 use Rattle.savi_segments.proofs.Passing.{is_in}
-
--- they rise, from this one on
-abbrev pub AreFrom : ℕ → List ℕ → Type 0
-AreFrom from [] = Unit {0}
-AreFrom from (n ∷ ns) = (from ≤ n) × AreFrom (n + 1) ns
+pub use Rattle.savi_segments.proofs.Ascending.{AreFrom, increasing_from}
 
 or_none : (x y : Bool) → x ≡ false → y ≡ false → (x || y) ≡ false
 or_none true y one two = absurd (false≢true (sym one))
 or_none false y one two = two
 
 -- none of them is below
-none_below : (from n : ℕ) (ns : List ℕ) → AreFrom from ns → n < from → is_in n ns ≡ false
+pub none_below : (from n : ℕ) (ns : List ℕ) → AreFrom from ns → n < from → is_in n ns ≡ false
 none_below from n [] are low = refl
 none_below from n (m ∷ ns) are low =
     or_none (m == n) (is_in n ns) (ne_eqb m n (λ same. absurd (omega (arith, are.0, low, same)))) (none_below (m + 1) n ns are.1 (omega (arith, are.0, low)))
@@ -62,17 +57,3 @@ module _ (q : ℕ → Bool) where
       stops other false is = is
       stops other true is =
           absurd (false≢true (sym (none_below (from + 1) from (m ∷ ns) (omega (arith, are.0, other), are.1) (omega arith)) ∙ all from (omega arith) is))
-
--- what is strictly increasing rises
-pub increasing_from : (from : ℕ) (ns : List ℕ) → IsStrictlyIncreasing ns → (0 < length ns → from ≤ get_or ns 0 0) → AreFrom from ns
-increasing_from from [] rising first = tt
-increasing_from from (n ∷ ns) rising first = (first (omega arith), increasing_from (n + 1) ns rest (next ns rising))
-  where
-    rest : IsStrictlyIncreasing ns
-    rest k inside =
-        let same : suc k + 1 ≡ suc (k + 1) = omega arith in
-        subst (λ (i : ℕ). get_or (n ∷ ns) (suc k) 0 < get_or (n ∷ ns) i 0) same (rising (suc k) (omega (arith, inside)))
-
-    next : (ms : List ℕ) → IsStrictlyIncreasing (n ∷ ms) → 0 < length ms → n + 1 ≤ get_or ms 0 0
-    next [] more some = absurd (omega (arith, some))
-    next (m ∷ ms) more some = let up = more 0 (omega arith) in omega (arith, up)

@@ -1,9 +1,10 @@
 -- What the shows print, line by line.
-use Rattle.std.proofs.Common.{ℕ, ◌≡◌, ◌+◌, ◌<◌, ◌≤◌, List, [], ◌∷◌, ◌++◌, length, map, take, get_or, Some, None, true, inl, inr, refl, sym, ap, ◌∙◌, append_assoc, arith}
+use Rattle.std.proofs.Common.{ℕ, ◌≡◌, ◌+◌, ◌^◌, ◌<◌, ◌≤◌, All, List, [], ◌∷◌, ◌++◌, length, map, take, drop, get_or, Some, None, true, inl, inr, refl, sym, ap, ◌∙◌, append_assoc, arith}
 use Rattle.std.specs.List.{slice_get}
 use Rattle.std.specs.Option.{option_map}
 use Rattle.std.proofs.lemmas.Option.{slice_get-get_or, slice_get_cases, none-some, same_Some}
-use Rattle.std.proofs.lemmas.List.{take_more, take_all, append-nil, get_or-map}
+use Rattle.std.proofs.lemmas.List.{take_more, take_all, append-nil, get_or-map, map-append}
+use Rattle.std.proofs.lemmas.List.Elements.{All-drop, All-filter, All-head}
 use Rattle.savi_kinds.specs.declared.address.Addr.{Addr}
 use Rattle.savi_kinds.specs.declared.address.Mac.{Mac}
 use Rattle.savi_kinds.specs.declared.port.Port.{Port}
@@ -22,14 +23,17 @@ use Rattle.hist_store.proofs.LineLemmas.{lines_text-append}
 use Rattle.control_replies.specs.Bindings.{binding_lines, all_binding_lines}
 use Rattle.control_replies.specs.declared.port_row.PortRow.{PortRow}
 use Rattle.control_replies.specs.Replies.{end_text}
-use Rattle.control_replies.specs.Shows.{port_fields, ports_text, station_fields, station_line, stations_text}
+use Rattle.control_replies.specs.Shows.{port_fields, ports_text, station_fields, station_line}
+use Rattle.bridge_fdb.specs.Stations.{is_live, live_at, rows_from, station_end, station_told}
 use Rattle.savi_history.specs.Passes.{has_port}
+use Rattle.savi_history.specs.Shown.{station_row}
 use Rattle.savi_history.proofs.PassNumbers.{known_at}
 use Rattle.savi_core.specs.Machines.{port_number_at}
+use Rattle.savi_core.specs.Shows.{kept_station_row}
 
 -- the lines of addresses
 
-more_bindings : (times : Times) (rows more : List Row) → all_binding_lines times (rows ++ more) ≡ all_binding_lines times rows ++ all_binding_lines times more
+pub more_bindings : (times : Times) (rows more : List (ℕ × Row)) → all_binding_lines times (rows ++ more) ≡ all_binding_lines times rows ++ all_binding_lines times more
 more_bindings times [] more = refl
 more_bindings times (row ∷ rows) more =
     ap (λ text. binding_lines times row ++ text) (more_bindings times rows more)
@@ -46,21 +50,25 @@ row_more rows i address state within told =
     let pair : (address, state) ≡ pair_of (get_or rows i row) = same_Some (address, state) (pair_of (get_or rows i row)) (told ∙ ap (option_map pair_of) at) in
     take_more rows i row within ∙ ap (λ r. take i rows ++ r ∷ []) (sym (ap row_with pair))
 
--- those of the rows up to the next one
-pub next_binding : (times : Times) (rows : List Row) (i : ℕ) (address : Addr) (state : AddrState) (was now : List ℕ)
+-- those of the rows of a VLAN up to the next one, behind others
+pub next_binding : (times : Times) (vlan : ℕ) (rows : List Row) (i : ℕ) (address : Addr) (state : AddrState) (before was now : List ℕ)
     → i < length rows
     → Some (address, state) ≡ option_map pair_of (slice_get rows i)
-    → was ≡ all_binding_lines times (take i rows)
-    → now ≡ was ++ binding_lines times (row_with (address, state))
-    → now ≡ all_binding_lines times (take (i + 1) rows)
-next_binding times rows i address state was now within told was_is now_is =
+    → was ≡ before ++ all_binding_lines times (map (λ row. (vlan, row)) (take i rows))
+    → now ≡ was ++ binding_lines times (vlan, row_with (address, state))
+    → now ≡ before ++ all_binding_lines times (map (λ row. (vlan, row)) (take (i + 1) rows))
+next_binding times vlan rows i address state before was now within told was_is now_is =
+    let with_vlan : Row → ℕ × Row = λ row. (vlan, row) in
     let row : Row = row_with (address, state) in
+    let some : List ℕ = all_binding_lines times (map (λ r. (vlan, r)) (take i rows)) in
     let more : take (i + 1) rows ≡ take i rows ++ row ∷ [] = row_more rows i address state within told in
     now_is
-    ∙ ap (λ text. text ++ binding_lines times row) was_is
-    ∙ ap (λ text. all_binding_lines times (take i rows) ++ text) (sym (append-nil (binding_lines times row)))
-    ∙ sym (more_bindings times (take i rows) (row ∷ []))
-    ∙ ap (all_binding_lines times) (sym more)
+    ∙ ap (λ text. text ++ binding_lines times (vlan, row)) was_is
+    ∙ append_assoc before some (binding_lines times (vlan, row))
+    ∙ ap (λ text. before ++ text)
+    (ap (λ text. some ++ text) (sym (append-nil (binding_lines times (vlan, row))))
+    ∙ sym (more_bindings times (map with_vlan (take i rows)) ((vlan, row) ∷ []))
+    ∙ ap (all_binding_lines times) (sym (map-append with_vlan (take i rows) (row ∷ [])) ∙ ap (map with_vlan) (sym more)))
 
 -- a row is told wherever one is
 pub some_row : (rows : List Row) (i : ℕ) → i < length rows → None ≡ option_map pair_of (slice_get rows i) → ⊥
@@ -98,7 +106,7 @@ all_ports row ports i was now all was_is now_is =
 -- the lines of stations
 
 -- what is left once the next one was written
-pub next_station : (row : Mac × Port × ℕ) (rows left : List (Mac × Port × ℕ)) (was now all : List ℕ)
+pub next_station : (row : ℕ × Mac × Port × ℕ) (rows left : List (ℕ × Mac × Port × ℕ)) (was now all : List ℕ)
     → left ≡ row ∷ rows
     → now ≡ was ++ station_line row
     → was ++ lines_text (map station_fields left) ≡ all
@@ -111,16 +119,32 @@ next_station row rows left was now all left_is now_is was_is =
     ∙ ap (λ all. was ++ lines_text (map station_fields all)) (sym left_is)
     ∙ was_is
 
--- nothing is left, and the last line was written
-pub all_stations : (left rows : List (Mac × Port × ℕ)) (was now : List ℕ)
-    → left ≡ []
-    → was ++ lines_text (map station_fields left) ≡ lines_text (map station_fields rows)
-    → now ≡ was ++ end_text
-    → now ≡ stations_text rows
-all_stations left rows was now left_is was_is now_is =
-    now_is
-    ∙ ap (λ text. text ++ end_text) (sym (append-nil was) ∙ ap (λ some. was ++ lines_text (map station_fields some)) (sym left_is) ∙ was_is)
+-- nothing is left
+pub no_station : (left : List (ℕ × Mac × Port × ℕ)) (was all : List ℕ) → left ≡ [] → was ++ lines_text (map station_fields left) ≡ all → was ≡ all
+no_station left was all left_is was_is =
+    sym (append-nil was) ∙ ap (λ some. was ++ lines_text (map station_fields some)) (sym left_is) ∙ was_is
+
+-- the rows of the stations of a VLAN
+pub own_rows : (vlan : ℕ) (live : List Station) → map kept_station_row (map (λ (a : Station). (vlan, a)) live) ≡ map (station_row vlan) (map station_told live)
+own_rows vlan [] = refl
+own_rows vlan (station ∷ live) = ap (λ (rows : List (ℕ × Mac × Port × ℕ)). station_row vlan (station_told station) ∷ rows) (own_rows vlan live)
 
 -- at most 256 stations are kept of each of 16 ports
 pub few_stations : (stations : List Station) → IsWithinLimits stations → length stations ≤ 4096
 few_stations stations limits = omega (arith, length-by_port (λ (station : Station). station.port) 256 stations limits.room)
+
+-- a station that is shown ends 300 s after a moment of 62 bits
+
+first_in_time : (live : List Station) → All (λ (station : Station). station.last ≤ 2 ^ 62) live → (row : Mac × Port × ℕ) (rest : List (Mac × Port × ℕ)) → map station_told live ≡ row ∷ rest → row.2 < 2 ^ 63
+first_in_time [] early row rest is = absurd cc
+first_in_time (station ∷ live) early row rest is =
+    let first : station_told station ≡ row = (cc) in
+    let end : station_end station ≡ row.2 = ap (λ (told : Mac × Port × ℕ). told.2) first in
+    let last : station.last ≤ 2 ^ 62 = All-head (λ (s : Station). s.last ≤ 2 ^ 62) station live early in
+    omega (arith, end, last)
+
+pub row_in_time : (t from : ℕ) (stations : List Station) (row : Mac × Port × ℕ) (rest : List (Mac × Port × ℕ)) → IsWithinLimits stations → rows_from t from stations ≡ row ∷ rest → row.2 < 2 ^ 63
+row_in_time t from stations row rest limits is =
+    first_in_time (live_at t (drop from stations))
+    (All-filter (is_live t) (λ (station : Station). station.last ≤ 2 ^ 62) (drop from stations) (All-drop (λ (station : Station). station.last ≤ 2 ^ 62) from stations limits.in_time))
+    row rest is

@@ -1,5 +1,5 @@
 -- Which ports are shut, through each change of the queues, and where frames go then.
-use Rattle.std.proofs.Common.{ℕ, ◌≡◌, ◌≤◌, ◌==◌, ◌&&◌, ◌||◌, not, nat_le, if◌then◌else◌, Bool, true, false, Some, None, List, [], ◌∷◌, ◌++◌, fold, refl, sym, ap, subst, ◌∙◌, inl, inr}
+use Rattle.std.proofs.Common.{ℕ, ◌≡◌, ◌≤◌, ◌==◌, ◌&&◌, ◌||◌, not, nat_le, if◌then◌else◌, Bool, true, false, Option, Some, None, List, [], ◌∷◌, ◌++◌, fold, refl, sym, ap, subst, ◌∙◌, inl, inr}
 use Rattle.std.proofs.Math.Path.{fun_ext}
 use Rattle.std.proofs.lemmas.Bool.{cases_Bool, cases_eq, eq-eqb, ne_eqb, leb-true, le-leb, false≢true}
 use Rattle.savi_kinds.specs.declared.plan.Plan.{Plan}
@@ -8,7 +8,6 @@ use Rattle.savi_kinds.specs.declared.port.PortSet.{PortSet}
 use Rattle.savi_kinds.specs.Ports.{number_of}
 use Rattle.savi_kinds.specs.PortSets.{is_member, set_of}
 use Rattle.savi_kinds.specs.ValidPlan.{numbers_of}
-use Rattle.savi_access.specs.declared.sent.SentProbe.{SentProbe}
 use Rattle.control_replies.specs.declared.refusal.Refusal.TheVariants as refusals
 use Rattle.hist_store.specs.Rows.{Row}
 use Rattle.checkpoint.specs.Bases.{Base}
@@ -20,31 +19,31 @@ use Rattle.savi_history.proofs.Directing.{member_filter, all_numbers, known_memb
 use Rattle.savi_core.specs.Rings.{Rings, uncounted, shut_in, with_shut, rings_after_probe}
 use Rattle.savi_kinds.specs.declared.verdict.Verdict.{Verdict}
 use Rattle.frame_class.specs.declared.classes.Class.{Class}
-use Rattle.savi_access.specs.Probes.{probes_between}
 use Rattle.savi_access.specs.Rules.{AccessRules, AccessBase}
-use Rattle.savi_access.specs.Marks.{Mark, told}
-use Rattle.access_table.specs.Kept.{Kept as Table}
-use Rattle.savi_history.specs.Vlans.{the_vlan}
+use Rattle.savi_access.specs.Marks.{Mark}
 use Rattle.savi_history.specs.Marks.{judged_at}
-use Rattle.savi_history.specs.Offers.{in_answer}
-use Rattle.savi_core.specs.Judges.{Judges, Ages}
+use Rattle.savi_history.specs.Offers.{Offer, in_answer}
+use Rattle.savi_core.specs.Judges.{Judges, Ages, due_between}
+use Rattle.savi_core.specs.declared.vlan_set.VlanSet.{VlanSet}
+use Rattle.savi_core.specs.VlanSets.{vlans_of_sets}
 use Rattle.savi_core.specs.Remembers.{CoreState, Remembers}
 use Rattle.savi_core.proofs.Members.{same_members}
 
 -- probes leave the ports as they are
-pub shut_probed : (sents : List SentProbe) (rings : Rings) → (fold rings_after_probe rings sents).shut ≡ rings.shut
+pub shut_probed : (sents : List Offer) (rings : Rings) → (fold rings_after_probe rings sents).shut ≡ rings.shut
 shut_probed [] rings = refl
 shut_probed (sent ∷ sents) rings = shut_probed sents (rings_after_probe rings sent)
 
 -- so do ageing and judging
-pub shut_aged : (r : AccessRules) (from t : ℕ) (kept : Table) (old new : Rings) (base : AccessBase) (past : List Mark) → Ages r from t kept old new base past → new.shut ≡ old.shut
-shut_aged r from t kept old new base past fact =
-    ap (λ (rings : Rings). rings.shut) fact.probes ∙ shut_probed (probes_between r.addresses base.addresses (told past) from t the_vlan) (uncounted old)
+pub shut_aged : (r : AccessRules) (from t : ℕ) (sets : List VlanSet) (old new : Rings) (base : AccessBase) (past : List Mark) → Ages r from t sets old new base past → new.shut ≡ old.shut
+shut_aged r from t sets old new base past fact =
+    ap (λ (rings : Rings). rings.shut) fact.probes ∙ shut_probed (due_between r base past from t (vlans_of_sets sets)) (uncounted old)
 
-pub shut_judged : (r : AccessRules) (from t : ℕ) (shut : Bool) (port : Port) (class : Class) (kept : Table) (old new : Rings) (verdict : Verdict) (base : AccessBase) (past : List Mark) → Judges r from t shut port class kept old new verdict base past → new.shut ≡ old.shut
-shut_judged r from t shut port class kept old new verdict base past fact =
+pub shut_judged : (r : AccessRules) (from t : ℕ) (shut : Bool) (port : Port) (vlan : Option ℕ) (class : Class) (sets : List VlanSet) (old new : Rings) (verdict : Verdict) (base : AccessBase) (past : List Mark)
+    → Judges r from t shut port vlan class sets old new verdict base past → new.shut ≡ old.shut
+shut_judged r from t shut port vlan class sets old new verdict base past fact =
     ap (λ (rings : Rings). rings.shut) fact.probes
-    ∙ shut_probed (probes_between r.addresses base.addresses (told past) from t the_vlan ++ in_answer (judged_at r base shut past port t class).probe) (uncounted old)
+    ∙ shut_probed (due_between r base past from t (vlans_of_sets sets) ++ in_answer vlan (judged_at r base shut past port t vlan class).probe) (uncounted old)
 
 -- what is remembered, with the same shut ports given otherwise
 pub shut_as : {k : CoreState} {shut : PortSet} → k.shut ≡ shut → Remembers k → Remembers (record k { shut = shut })

@@ -11,13 +11,13 @@ use Rattle.savi_kinds.specs.declared.entry.Who.{Who}
 use Rattle.savi_kinds.specs.declared.entry.Who.TheVariants.{Ingress, Control, Ticker, Egress}
 use Rattle.savi_kinds.specs.declared.entry.How.{How}
 use Rattle.savi_kinds.specs.Ports.{number_of}
+use Rattle.savi_kinds.specs.PortSets.{is_member}
 use Rattle.savi_kinds.specs.ValidPlan.{numbers_of}
-use Rattle.savi_access.specs.declared.sent.SentProbe.{SentProbe}
 use Rattle.egress_ring.specs.declared.item.Item.{Item as Queued}
 use Rattle.egress_ring.specs.declared.item.Item.TheVariants as queued
 use Rattle.hist_store.specs.Rows.{Row, held}
 use Rattle.checkpoint.specs.Columns.{Columns, kept_base as base_kept}
-use Rattle.savi_history.specs.Offers.{offer_of, offers}
+use Rattle.savi_history.specs.Offers.{Offer, offers}
 use Rattle.savi_history.specs.Passes.{has_ended, has_port, pass_of, egress_pass, place_of, pass_count, is_end}
 use Rattle.savi_history.specs.Limits.{has_room}
 use Rattle.savi_history.specs.Queues.{queue, waiting_after, probes, lost}
@@ -73,20 +73,20 @@ stepped_view plan checkpoint rows e octets event m view is_row =
 
 module _ {k : CoreState} (was : Remembers k) where
   -- the lanes once the probes of an entry were offered, whatever they are
-  pub probed_now : (act : Act) (octets : List ℕ) (sents : List SentProbe) (rings : Rings) → shut_in rings.shut ≡ shut_by k.plan k.base (reverse k.rows) → map offer_of sents ≡ offers k.plan k.base (reverse k.rows) act octets → rings.lanes ≡ k.lanes
+  pub probed_now : (act : Act) (octets : List ℕ) (sents : List Offer) (rings : Rings) → shut_in rings.shut ≡ shut_by k.plan k.base (reverse k.rows) → sents ≡ offers k.plan k.base (reverse k.rows) act octets → rings.lanes ≡ k.lanes
       → Show k.plan k.rows (fold rings_after_probe rings sents).lanes (probed_lane k.plan k.base (reverse k.rows) act octets)
   probed_now act octets sents rings shut_is came are =
-      show_probed k.plan k.base (reverse k.rows) k.rows act octets sents rings shut_is came
+      show_probed k.plan k.base (reverse k.rows) k.rows act octets sents rings was.valid shut_is came
       (subst (λ (lanes : List (Lane Queued)). Show k.plan k.rows lanes (lane_of k.plan k.base (reverse k.rows))) (sym are) was.queues)
 
   -- how many of them joined, and how many were left out, since the counts were reset
-  pub probes_now : (act : Act) (octets : List ℕ) (sents : List SentProbe) (rings : Rings) → map offer_of sents ≡ offers k.plan k.base (reverse k.rows) act octets → rings ≡ record { lanes = k.lanes; shut = k.shut; queued = 0; lost = 0 }
+  pub probes_now : (act : Act) (octets : List ℕ) (sents : List Offer) (rings : Rings) → sents ≡ offers k.plan k.base (reverse k.rows) act octets → rings ≡ record { lanes = k.lanes; shut = k.shut; queued = 0; lost = 0 }
       → length sents < 268435456 → ((fold rings_after_probe rings sents).queued ≡ probes k.plan k.base (reverse k.rows) act octets) × ((fold rings_after_probe rings sents).lost ≡ lost k.plan k.base (reverse k.rows) act octets)
   probes_now act octets sents rings came are short =
       let start : Rings = record { lanes = k.lanes; shut = k.shut; queued = 0; lost = 0 } in
       rw are (
-        queued_exact k.plan k.base (reverse k.rows) act octets k.rows sents start was.shut_ports came was.queues was.valid refl,
-        lost_exact k.plan k.base (reverse k.rows) act octets k.rows sents start was.shut_ports came was.queues was.valid short refl,
+        queued_exact k.plan k.base (reverse k.rows) act octets k.rows sents start was.shut_ports was.valid came was.queues refl,
+        lost_exact k.plan k.base (reverse k.rows) act octets k.rows sents start was.shut_ports was.valid came was.queues short refl,
       )
 
   pub remembers_long : (port : Port) (stamp len : ℕ) (e : Entry) (lanes' : List (Lane Queued)) → MayCome k.plan k.base (reverse k.rows) (events.Long port stamp len) → e ≡ (row_of k.plan k.base (reverse k.rows) (events.Long port stamp len)).entry
@@ -137,15 +137,15 @@ module _ {k : CoreState} (was : Remembers k) where
 
   pub remembers_frame : (port : Port) (stamp : ℕ) (octets : List ℕ) (e : Entry) (lanes lanes' : List (Lane Queued)) → MayCome k.plan k.base (reverse k.rows) (events.Frame port stamp octets) → e ≡ (row_of k.plan k.base (reverse k.rows) (events.Frame port stamp octets)).entry
       → Show k.plan k.rows lanes (probed_lane k.plan k.base (reverse k.rows) (events.frame_act (reverse k.rows) port stamp octets) octets)
-      → lanes' ≡ map (with_frame (queued.Frame (length k.rows)) e.outs) lanes → Remembers (record k { rows = k.rows ++ row e octets ∷ []; moment = e.moment; lanes = lanes' })
-  remembers_frame port stamp octets e lanes lanes' may e_is shows are =
+      → ((n : ℕ) → is_member e.outs n ≡ true → 14 ≤ length octets) → lanes' ≡ map (with_frame (queued.Frame (length k.rows)) e.outs) lanes → Remembers (record k { rows = k.rows ++ row e octets ∷ []; moment = e.moment; lanes = lanes' })
+  remembers_frame port stamp octets e lanes lanes' may e_is shows whole are =
       let act_is : e.act ≡ acts.Frame port stamp (held (reverse k.rows)) (length octets) = ap (λ (x : Entry). x.act) e_is in
       let room = room_for was may.0.room in
       remembers_next was (events.Frame port stamp octets) (row e octets) e.moment k.ended k.shut lanes' may (ap (λ (x : Entry). row x octets) e_is) refl (record {
         passes = λ pass below. ap (λ (a : Act). (is_end a && (e.by == pass)) || get_or k.ended pass false) (sym act_is);
         marks = refl;
         shut_ports = shut_still was (row e octets) (acts.Frame port stamp (held (reverse k.rows)) (length octets)) act_is (λ number. refl);
-        queues = show_framed k.plan k.base (reverse k.rows) k.rows (row e octets) lanes lanes' port stamp (held (reverse k.rows)) (length octets) act_is may.1 are shows;
+        queues = show_framed k.plan k.base (reverse k.rows) k.rows (row e octets) lanes lanes' port stamp (held (reverse k.rows)) (length octets) act_is may.1 whole are shows;
         octets = omega (arith, room.1, may.1);
         room = λ near. absurd (omega (arith, near, room.0));
       })
@@ -186,7 +186,7 @@ module _ {k : CoreState} (was : Remembers k) where
             subst (λ (lanes : List (Lane Queued)). Show k.plan (k.rows ++ row e [] ∷ []) lanes (lane_of k.plan k.base (row e [] ∷ reverse k.rows))) (sym are)
             (show_set was.queues (row e []) (lane_of k.plan k.base (row e [] ∷ reverse k.rows)) (number_of port) p (with_drained count (get_or k.lanes p d)) was.valid may.0.known place_is
             (there_drained k.rows (row e []) count (get_or k.lanes p d) there)
-            (shown_drained k.plan.mac k.rows (row e []) count (get_or k.lanes p d) there
+            (shown_drained k.plan k.rows (row e []) count (get_or k.lanes p d) there
             ∙ ap (with_drained count) (lane_at was.queues (number_of port) p d may.0.known place_is)
             ∙ lane_drained k.plan k.base (reverse k.rows) (row e []) port count act_is)
             (λ q known other. lane_elsewhere k.plan k.base (reverse k.rows) (row e []) q port count act_is (λ same. other (sym same))));
@@ -268,7 +268,7 @@ module _ {k : CoreState} (was : Remembers k) where
       (subst (λ (lanes : List (Lane Queued)). Show k.plan (k.rows ++ row e [] ∷ []) lanes (lane_of k.plan k.base (row e [] ∷ reverse k.rows))) (sym are)
       (show_set was.queues (row e []) (lane_of k.plan k.base (row e [] ∷ reverse k.rows)) (number_of port) p (with_ended how (get_or k.lanes p d)) was.valid may.0.known place_is
       (there_ended k.rows (row e []) how (get_or k.lanes p d) there)
-      (shown_ended k.plan.mac k.rows (row e []) how (get_or k.lanes p d) there
+      (shown_ended k.plan k.rows (row e []) how (get_or k.lanes p d) there
       ∙ ap (with_ended how) (lane_at was.queues (number_of port) p d may.0.known place_is)
       ∙ lane_ended k.plan k.base (reverse k.rows) (row e []) port how act_is by_is)
       (λ q known other. lane_apart k.plan k.base (reverse k.rows) (row e []) q port how act_is by_is may.0.known known (λ same. other (sym same)))))

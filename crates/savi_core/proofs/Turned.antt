@@ -1,18 +1,19 @@
 -- What a core keeps behind a turn.
-use Rattle.std.proofs.Common.{◌≡◌, ℕ, suc, ◌+◌, ◌-◌, ◌*◌, ◌^◌, ◌<◌, ◌≤◌, ◌==◌, ◌&&◌, Bool, true, false, if◌then◌else◌, Option, None, List, [], ◌∷◌, length, map, get_or, refl, sym, ap, subst, ◌∙◌, inl, inr, arith}
+use Rattle.std.proofs.Common.{◌≡◌, ℕ, suc, ◌+◌, ◌-◌, ◌^◌, ◌<◌, ◌≤◌, ◌==◌, ◌&&◌, Bool, true, false, if◌then◌else◌, Option, None, List, [], ◌∷◌, length, map, get_or, refl, sym, ap, subst, ◌∙◌, inl, inr, arith, ◌++◌}
 use Rattle.std.specs.Prelude.{All, reverse, slice_index_or}
 use Rattle.std.specs.Option.{is_some}
 use Rattle.std.specs.List.{filter}
 use Rattle.std.proofs.Math.Path.{fun_ext}
 use Rattle.std.proofs.lemmas.Bool.{false≢true, cases_eq, or_left, or_right, or_cases, le-leb}
 use Rattle.std.proofs.lemmas.List.{length-map, get_or-map, length-reverse, get_or-reverse}
-use Rattle.std.proofs.lemmas.List.Elements.{All-nil, All-cons}
+use Rattle.std.proofs.lemmas.List.Elements.{All-nil, All-cons, All-head, All-tail, All-weaker}
 use Rattle.hex.specs.Hex.{IsBytes}
 use Rattle.savi_kinds.specs.declared.plan.Plan.{Plan}
 use Rattle.savi_kinds.specs.declared.entry.How.{How}
 use Rattle.savi_kinds.specs.declared.port.PortSet.{PortSet}
 use Rattle.savi_kinds.specs.declared.plan.PortPlan.{PortPlan}
 use Rattle.savi_kinds.specs.Ports.{number_of}
+use Rattle.savi_kinds.specs.Vlans.{vlan_among}
 use Rattle.savi_kinds.specs.PortSets.{is_member}
 use Rattle.bridge_fdb.specs.declared.station.Station.{Station}
 use Rattle.bridge_fdb.specs.Stations.{live_at}
@@ -26,11 +27,9 @@ use Rattle.savi_access.specs.Marks.{Mark, told, open_requests, base_at}
 use Rattle.savi_access.specs.Plans.{rules_of}
 use Rattle.access_table.specs.Kept.{Kept as Table, Represents}
 use Rattle.savi_kinds.specs.ValidPlan.{numbers_of}
-use Rattle.savi_kinds.proofs.PortCounts.{length-by_port}
 use Rattle.egress_ring.specs.declared.item.Item.{Item as Queued}
 use Rattle.hist_store.specs.Rows.{Row}
 use Rattle.checkpoint.specs.Bases.{Base, access_of}
-use Rattle.savi_history.specs.Vlans.{the_vlan}
 use Rattle.savi_history.specs.Marks.{marks as marks_of}
 use Rattle.savi_history.specs.Shown.{counts_of}
 use Rattle.savi_history.specs.Passes.{has_ended, has_port, pass_count, place_of, egress_pass, role_of, is_trusted}
@@ -42,17 +41,18 @@ use Rattle.savi_history.proofs.PassNumbers.{number_at, place_at, known_at}
 use Rattle.savi_history.proofs.Closed.{closed_empty}
 use Rattle.savi_history.proofs.Teaching.{last_small}
 use Rattle.savi_segments.specs.Checkpoints.{up_to, ends_of, after}
-use Rattle.checkpoint.specs.Columns.{Columns, kept_base, nothing_before}
+use Rattle.checkpoint.specs.Columns.{Columns, by_vlan, kept_base, nothing_before}
 use Rattle.savi_segments.proofs.Passing.{is_in, in_filtered}
 use Rattle.savi_segments.proofs.Reading.{LeaveLimits, after_within}
-use Rattle.savi_core.specs.Lanes.{Lane, with_reopened, lane_of}
+use Rattle.savi_core.specs.Lanes.{Lane, numbers_by, with_reopened, lane_of}
 use Rattle.savi_core.specs.Waits.{queued_item, shown_lane, IsThere, AreThere}
+use Rattle.savi_core.specs.declared.vlan_set.VlanSet.{VlanSet}
+use Rattle.savi_core.specs.VlanSets.{of_sets, vlans_of_sets}
 use Rattle.savi_core.specs.Rings.{shut_in}
 use Rattle.savi_core.specs.Ends.{EndMarks, AreEnds}
-use Rattle.savi_core.specs.Turns.{of_one, with_ends, with_rows, with_requests, with_stations, reopened}
+use Rattle.savi_core.specs.Turns.{with_ends, with_rows, with_requests, with_stations, reopened}
 use Rattle.savi_core.specs.Remembers.{CoreState, Remembers}
-use Rattle.savi_core.specs.Knows.{Knows}
-use Rattle.savi_core.specs.Tells.{Tells}
+use Rattle.savi_core.specs.Tells.{Tells, TellOfAll}
 use Rattle.savi_core.proofs.Over.{over_behind}
 use Rattle.savi_core.proofs.Rising.{in_behind}
 use Rattle.savi_core.proofs.Leaving.{left_is, ended_left}
@@ -92,19 +92,20 @@ least_of (p ∷ ports) n there =
 
 module _ (plan : Plan) (base mid : Base) (past rows : List Row) (ends : List (Option How)) where
   -- a lane that shows that of a port, at which nothing waits
-  empty_lane : (lane : Lane Queued) (q : ℕ) → shown_lane plan.mac rows lane ≡ lane_of plan base past q → queue plan base q past ≡ [] → lane.items ≡ []
-  empty_lane lane q shows none = none_mapped (queued_item plan.mac rows) lane.items (ap (λ (x : Lane Item). x.items) shows ∙ none)
+  empty_lane : (lane : Lane Queued) (q : ℕ) → shown_lane plan rows lane ≡ lane_of plan base past q → queue plan base q past ≡ [] → lane.items ≡ []
+  empty_lane lane q shows none = none_mapped (queued_item plan rows lane.number) lane.items (ap (λ (x : Lane Item). x.items) shows ∙ none)
 
-  lane_opened : (lane : Lane Queued) (q : ℕ) (over : Bool) → shown_lane plan.mac rows lane ≡ lane_of plan base past q → queue plan base q past ≡ [] → over ≡ has_ended mid (egress_pass plan q) []
-      → shown_lane plan.mac [] (with_reopened over lane) ≡ lane_of plan mid [] q
+  lane_opened : (lane : Lane Queued) (q : ℕ) (over : Bool) → shown_lane plan rows lane ≡ lane_of plan base past q → queue plan base q past ≡ [] → over ≡ has_ended mid (egress_pass plan q) []
+      → shown_lane plan [] (with_reopened over lane) ≡ lane_of plan mid [] q
   lane_opened lane q over shows none flag =
       let number_is : lane.number ≡ q = ap (λ (x : Lane Item). x.number) shows in
       let trusted_is : lane.trusted ≡ is_trusted (role_of plan q) = ap (λ (x : Lane Item). x.trusted) shows in
+      let vlans_are : lane.vlans ≡ numbers_by (vlan_among plan.ports q) = ap (λ (x : Lane Item). x.vlans) shows in
       let depth_is : lane.depth ≡ plan.depth = ap (λ (x : Lane Item). x.depth) shows in
       let room_is : (if over then 0 else lane.depth) ≡ room_at plan mid [] q =
       ap (λ (b : Bool). if b then 0 else lane.depth) flag ∙ ap (λ (depth : ℕ). if has_ended mid (egress_pass plan q) [] then 0 else depth) depth_is in
-      let items_are : map (queued_item plan.mac []) lane.items ≡ [] = ap (λ (items : List Queued). map (queued_item plan.mac []) items) (empty_lane lane q shows none) in
-      λ i. record { number = number_is i; trusted = trusted_is i; depth = depth_is i; room = room_is i; items = items_are i }
+      let items_are : map (queued_item plan [] lane.number) lane.items ≡ [] = ap (λ (items : List Queued). map (queued_item plan [] lane.number) items) (empty_lane lane q shows none) in
+      λ i. record { number = number_is i; trusted = trusted_is i; vlans = vlans_are i; depth = depth_is i; room = room_is i; items = items_are i }
 
   -- what is said of the ports from one on
   abbrev Quiet : ℕ → List ℕ → Type 0
@@ -124,26 +125,26 @@ module _ (plan : Plan) (base mid : Base) (past rows : List Row) (ends : List (Op
       let same : first + suc k ≡ first + 1 + k = omega arith in
       (here.0, ap (λ (pass : ℕ). is_some (slice_index_or ends pass None)) (sym same) ∙ here.1)
 
-  lanes_opened : (lanes : List (Lane Queued)) (numbers : List ℕ) (first : ℕ) → map (shown_lane plan.mac rows) lanes ≡ map (lane_of plan base past) numbers → Quiet first numbers
-      → map (shown_lane plan.mac []) (reopened first ends lanes) ≡ map (lane_of plan mid []) numbers
+  lanes_opened : (lanes : List (Lane Queued)) (numbers : List ℕ) (first : ℕ) → map (shown_lane plan rows) lanes ≡ map (lane_of plan base past) numbers → Quiet first numbers
+      → map (shown_lane plan []) (reopened first ends lanes) ≡ map (lane_of plan mid []) numbers
   lanes_opened [] [] first show quiet = refl
   lanes_opened [] (n ∷ numbers) first show quiet = cc
   lanes_opened (lane ∷ lanes) [] first show quiet = cc
   lanes_opened (lane ∷ lanes) (n ∷ numbers) first show quiet =
       let here = quiet_front first n numbers quiet in
-      let one : shown_lane plan.mac rows lane ≡ lane_of plan base past n = head (shown_lane plan.mac rows lane) (lane_of plan base past n) (map (shown_lane plan.mac rows) lanes) (map (lane_of plan base past) numbers) show in
-      let more : map (shown_lane plan.mac rows) lanes ≡ map (lane_of plan base past) numbers = tail (shown_lane plan.mac rows lane) (lane_of plan base past n) (map (shown_lane plan.mac rows) lanes) (map (lane_of plan base past) numbers) show in
-      ap (λ (x : Lane Item). x ∷ map (shown_lane plan.mac []) (reopened (first + 1) ends lanes)) (lane_opened lane n (is_some (slice_index_or ends first None)) one here.0 here.1)
+      let one : shown_lane plan rows lane ≡ lane_of plan base past n = head (shown_lane plan rows lane) (lane_of plan base past n) (map (shown_lane plan rows) lanes) (map (lane_of plan base past) numbers) show in
+      let more : map (shown_lane plan rows) lanes ≡ map (lane_of plan base past) numbers = tail (shown_lane plan rows lane) (lane_of plan base past n) (map (shown_lane plan rows) lanes) (map (lane_of plan base past) numbers) show in
+      ap (λ (x : Lane Item). x ∷ map (shown_lane plan []) (reopened (first + 1) ends lanes)) (lane_opened lane n (is_some (slice_index_or ends first None)) one here.0 here.1)
       ∙ ap (λ (xs : List (Lane Item)). lane_of plan mid [] n ∷ xs) (lanes_opened lanes numbers (first + 1) more (quiet_behind first n numbers quiet))
 
-  lanes_there : (lanes : List (Lane Queued)) (numbers : List ℕ) (first : ℕ) → map (shown_lane plan.mac rows) lanes ≡ map (lane_of plan base past) numbers → Quiet first numbers
+  lanes_there : (lanes : List (Lane Queued)) (numbers : List ℕ) (first : ℕ) → map (shown_lane plan rows) lanes ≡ map (lane_of plan base past) numbers → Quiet first numbers
       → All (AreThere []) (reopened first ends lanes)
   lanes_there [] numbers first show quiet = All-nil (AreThere [])
   lanes_there (lane ∷ lanes) [] first show quiet = cc
   lanes_there (lane ∷ lanes) (n ∷ numbers) first show quiet =
       let here = quiet_front first n numbers quiet in
-      let one : shown_lane plan.mac rows lane ≡ lane_of plan base past n = head (shown_lane plan.mac rows lane) (lane_of plan base past n) (map (shown_lane plan.mac rows) lanes) (map (lane_of plan base past) numbers) show in
-      let more : map (shown_lane plan.mac rows) lanes ≡ map (lane_of plan base past) numbers = tail (shown_lane plan.mac rows lane) (lane_of plan base past n) (map (shown_lane plan.mac rows) lanes) (map (lane_of plan base past) numbers) show in
+      let one : shown_lane plan rows lane ≡ lane_of plan base past n = head (shown_lane plan rows lane) (lane_of plan base past n) (map (shown_lane plan rows) lanes) (map (lane_of plan base past) numbers) show in
+      let more : map (shown_lane plan rows) lanes ≡ map (lane_of plan base past) numbers = tail (shown_lane plan rows lane) (lane_of plan base past n) (map (shown_lane plan rows) lanes) (map (lane_of plan base past) numbers) show in
       All-cons (AreThere []) (with_reopened (is_some (slice_index_or ends first None)) lane) (reopened (first + 1) ends lanes)
       (subst (λ (items : List Queued). All (IsThere []) items) (sym (empty_lane lane n one here.0)) (All-nil (IsThere [])))
       (lanes_there lanes numbers (first + 1) more (quiet_behind first n numbers quiet))
@@ -205,7 +206,7 @@ module _ {k : CoreState} (was : Remembers k) (marks : EndMarks) (are : AreEnds k
     queues = record {
       there = subst (λ (ls : List (Lane Queued)). All (AreThere []) ls) (sym lanes_are) (lanes_there k.plan k.base mid past k.rows marks.ends k.lanes (numbers_of k.plan.ports) (length k.plan.ports + 2) was.queues.same quiet);
       same =
-          ap (λ (ls : List (Lane Queued)). map (shown_lane k.plan.mac []) ls) lanes_are
+          ap (λ (ls : List (Lane Queued)). map (shown_lane k.plan []) ls) lanes_are
           ∙ lanes_opened k.plan k.base mid past k.rows marks.ends k.lanes (numbers_of k.plan.ports) (length k.plan.ports + 2) was.queues.same quiet;
     };
     octets = omega arith;
@@ -224,28 +225,44 @@ begun row_room station_room moment shut counts = record (nothing_before row_room
 abbrev pub ends_below : EndMarks → ℕ → List (ℕ × How)
 ends_below marks passes = ends_of (λ pass. slice_index_or marks.ends pass None) (up_to passes)
 
-module _ {k : CoreState} (was : Remembers k) (row_room station_room : ℕ) (marks : EndMarks) (fdb : List Station) (table : Table) (counts : Counts) where
+-- what the sets have, by VLAN
+pub sets_by : {A : Type 0} (has : VlanSet → List A) (of : ℕ → List A) (sets : List VlanSet) → All (λ set. has set ≡ of set.access.vlan) sets → of_sets has sets ≡ by_vlan (vlans_of_sets sets) of
+sets_by has of [] all = refl
+sets_by {A} has of (set ∷ sets) all =
+    ap (λ (l : List A). map (λ (a : A). (set.access.vlan, a)) l ++ of_sets has sets) (All-head (λ (s : VlanSet). has s ≡ of s.access.vlan) set sets all)
+    ∙ ap (λ (l : List (ℕ × A)). map (λ (a : A). (set.access.vlan, a)) (of set.access.vlan) ++ l) (sets_by has of sets (All-tail (λ (s : VlanSet). has s ≡ of s.access.vlan) set sets all))
+
+module _ {k : CoreState} (was : Remembers k) (row_room station_room : ℕ) (marks : EndMarks) (sets : List VlanSet) (counts : Counts) where
+  abbrev rows_of_sets : List (ℕ × Address)
+  rows_of_sets = of_sets (λ set. set.access.addresses.rows) sets
+
+  abbrev requests_of_sets : List (ℕ × Request)
+  requests_of_sets = of_sets (λ set. open_at k.moment set.access.requests) sets
+
+  abbrev live_of_sets : List (ℕ × Station)
+  live_of_sets = of_sets (λ set. live_at k.moment set.fdb) sets
+
   -- what a turn keeps
   abbrev pub kept : Columns
   kept =
-      with_stations (live_at k.moment fdb)
-      (with_requests (open_at k.moment table.requests) (with_rows table.addresses.rows (with_ends (ends_below marks (pass_count k.plan)) (begun row_room station_room k.moment k.shut counts))))
+      with_stations live_of_sets
+      (with_requests requests_of_sets (with_rows rows_of_sets (with_ends (ends_below marks (pass_count k.plan)) (begun row_room station_room k.moment k.shut counts))))
 
   -- it is that, one by one
   pub kept_is : (start ended rows requests stations : Columns) (passes : ℕ) → passes ≡ pass_count k.plan → start ≡ begun row_room station_room k.moment k.shut counts
-      → ended ≡ with_ends (ends_below marks passes) start → rows ≡ with_rows table.addresses.rows ended → requests ≡ with_requests (open_at k.moment table.requests) rows → stations ≡ with_stations (live_at k.moment fdb) requests
+      → ended ≡ with_ends (ends_below marks passes) start → rows ≡ with_rows rows_of_sets ended → requests ≡ with_requests requests_of_sets rows → stations ≡ with_stations live_of_sets requests
       → stations ≡ kept
   kept_is start ended rows requests stations passes all start_is ended_is rows_are requests_are stations_are =
       stations_are
-      ∙ ap (with_stations (live_at k.moment fdb))
+      ∙ ap (with_stations live_of_sets)
       (requests_are
-      ∙ ap (with_requests (open_at k.moment table.requests))
-      (rows_are ∙ ap (with_rows table.addresses.rows) (ended_is ∙ ap (λ (n : ℕ). with_ends (ends_below marks n) start) all ∙ ap (with_ends (ends_below marks (pass_count k.plan))) start_is)))
+      ∙ ap (with_requests requests_of_sets)
+      (rows_are ∙ ap (with_rows rows_of_sets) (ended_is ∙ ap (λ (n : ℕ). with_ends (ends_below marks n) start) all ∙ ap (with_ends (ends_below marks (pass_count k.plan))) start_is)))
 
   -- which is what the history leaves
-  pub turned_left : AreEnds k.plan k.base (reverse k.rows) marks → Knows fdb k.moment k.base (reverse k.rows) → Tells k.plan k.base (reverse k.rows) k.moment table → counts ≡ counts_of k.base (reverse k.rows)
+  pub turned_left : AreEnds k.plan k.base (reverse k.rows) marks → TellOfAll k.plan k.base (reverse k.rows) k.moment sets → counts ≡ counts_of k.base (reverse k.rows)
       → kept_base kept ≡ after k.plan k.base (reverse k.rows)
-  turned_left ends knows tells counted =
+  turned_left ends tells counted =
       left_is k.plan was.valid k.base was.within (reverse k.rows) kept
       (record {
         goes_on = refl;
@@ -254,13 +271,17 @@ module _ {k : CoreState} (was : Remembers k) (row_room station_room : ℕ) (mark
         shut = λ n known. member n (least n known) ∙ ap (λ (shut : ℕ → Bool). shut n) was.shut_ports;
         inside = λ n low is. was.shut_inside n (sym (member n low) ∙ is);
         counts = counted;
-        stations = ap (λ (all : List Station). of_one all) knows;
+        stations = sets_by (λ set. live_at k.moment set.fdb) (after k.plan k.base (reverse k.rows)).stations sets tells.know ∙ ap (λ (vs : List ℕ). by_vlan vs (after k.plan k.base (reverse k.rows)).stations) tells.vlans;
         rows =
-            ap (λ (all : List Address). of_one all)
-            (tells.states.rows ∙ ap (λ (t : ℕ). rows_at (rules_of k.plan).addresses (access_of k.base).addresses (told (marks_of k.plan k.base (reverse k.rows))) t the_vlan) was.last);
+            sets_by (λ set. set.access.addresses.rows) (after k.plan k.base (reverse k.rows)).rows sets
+            (All-weaker (λ (set : VlanSet). Tells k.plan k.base (reverse k.rows) k.moment set.access) (λ (set : VlanSet). set.access.addresses.rows ≡ (after k.plan k.base (reverse k.rows)).rows set.access.vlan)
+            (λ set of. of.states.rows ∙ ap (λ (t : ℕ). rows_at (rules_of k.plan).addresses (access_of k.base).addresses (told (marks_of k.plan k.base (reverse k.rows))) t set.access.vlan) was.last) sets tells.tell)
+            ∙ ap (λ (vs : List ℕ). by_vlan vs (after k.plan k.base (reverse k.rows)).rows) tells.vlans;
         requests =
-            ap (λ (all : List Request). of_one all)
-            (tells.states.requests ∙ ap (λ (t : ℕ). open_requests (access_of k.base) the_vlan (marks_of k.plan k.base (reverse k.rows)) t) was.last);
+            sets_by (λ set. open_at k.moment set.access.requests) (after k.plan k.base (reverse k.rows)).requests sets
+            (All-weaker (λ (set : VlanSet). Tells k.plan k.base (reverse k.rows) k.moment set.access) (λ (set : VlanSet). open_at k.moment set.access.requests ≡ (after k.plan k.base (reverse k.rows)).requests set.access.vlan)
+            (λ set of. of.states.requests ∙ ap (λ (t : ℕ). open_requests (access_of k.base) set.access.vlan (marks_of k.plan k.base (reverse k.rows)) t) was.last) sets tells.tell)
+            ∙ ap (λ (vs : List ℕ). by_vlan vs (after k.plan k.base (reverse k.rows)).requests) tells.vlans;
       })
     where
       member : (n : ℕ) → 1 ≤ n → is_member k.shut n ≡ shut_in k.shut n
@@ -293,14 +314,12 @@ module _ {k : CoreState} (was : Remembers k) where
         ready = tells.ready;
       }
 
-  -- at most 256 requests and 4,096 stations are left
-
-  pub few_requests : (table : Table) → IsWithinLimits k.plan (after k.plan k.base (reverse k.rows)) → Tells k.plan k.base (reverse k.rows) k.moment table → length (open_at k.moment table.requests) ≤ 256
-  few_requests table within tells =
-      let are : open_at k.moment table.requests ≡ (after k.plan k.base (reverse k.rows)).requests the_vlan =
-      tells.states.requests ∙ ap (λ (t : ℕ). open_requests (access_of k.base) the_vlan (marks_of k.plan k.base (reverse k.rows)) t) was.last in
-      subst (λ (all : List Request). length all ≤ 256) (sym are) (length-by_port (λ (r : Request). r.port) 16 ((after k.plan k.base (reverse k.rows)).requests the_vlan) (within.access.limits the_vlan).room)
-
-  pub few_stations : (fdb : List Station) → IsWithinLimits k.plan (after k.plan k.base (reverse k.rows)) → Knows fdb k.moment k.base (reverse k.rows) → length (live_at k.moment fdb) ≤ 256 * 16
-  few_stations fdb within knows =
-      subst (λ (all : List Station). length all ≤ 256 * 16) (sym knows) (length-by_port (λ (x : Station). x.port) 256 ((after k.plan k.base (reverse k.rows)).stations the_vlan) (within.stations the_vlan).limits.room)
+  -- so do all sets
+  pub all_turned : GoOn → (sets : List VlanSet) → TellOfAll k.plan k.base (reverse k.rows) k.moment sets → TellOfAll k.plan (after k.plan k.base (reverse k.rows)) [] k.moment sets
+  all_turned go_on sets tells = record {
+    vlans = tells.vlans;
+    tell =
+        All-weaker (λ (set : VlanSet). Tells k.plan k.base (reverse k.rows) k.moment set.access) (λ (set : VlanSet). Tells k.plan (after k.plan k.base (reverse k.rows)) [] k.moment set.access)
+        (λ set of. tells_turned go_on set.access of) sets tells.tell;
+    know = tells.know;
+  }

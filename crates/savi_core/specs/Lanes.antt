@@ -1,27 +1,31 @@
 -- The queues of all ports: a lane for each, in the order of the plan. A lane's items are what its port keeps of them, or
 -- what they stand for.
-use Rattle.std.specs.Prelude.{◌≡◌, ℕ, ◌==◌, ◌&&◌, not, nat_lt, nat_le, Bool, false, if◌then◌else◌, List, [], ◌∷◌, ◌++◌, length, map, drop, slice_set, slice_index_or}
-use Rattle.std.specs.List.{filter}
+use Rattle.std.specs.Prelude.{◌≡◌, ℕ, ◌==◌, ◌&&◌, not, nat_lt, nat_le, Bool, false, if◌then◌else◌, Option, Some, None, List, [], ◌∷◌, ◌++◌, length, map, drop, slice_set, slice_index_or}
+use Rattle.std.specs.List.{filter, list_any}
 use Rattle.savi_kinds.specs.declared.port.PortSet.{PortSet}
 use Rattle.savi_kinds.specs.declared.plan.Plan.{Plan}
 use Rattle.savi_kinds.specs.declared.plan.PortPlan.{PortPlan}
+use Rattle.savi_kinds.specs.declared.plan.Vlan.{Vlan}
 use Rattle.savi_kinds.specs.declared.entry.Who.{Who}
 use Rattle.savi_kinds.specs.declared.entry.Who.TheVariants.{Ingress, Control, Ticker, Egress}
 use Rattle.savi_kinds.specs.declared.entry.How.{How}
 use Rattle.savi_kinds.specs.declared.entry.How.TheVariants as hows
 use Rattle.savi_kinds.specs.Ports.{number_of}
 use Rattle.savi_kinds.specs.PortSets.{is_member, set_of}
+use Rattle.savi_kinds.specs.Vlans.{numbers_of_vlan, vlan_among}
 use Rattle.fcfs_states.specs.declared.answer.Probe.{Probe}
 use Rattle.fcfs_states.specs.declared.answer.Probe.TheVariants.{Trusted, To}
 use Rattle.hist_store.specs.Rows.{Row}
 use Rattle.checkpoint.specs.Bases.{Base}
 use Rattle.savi_history.specs.Passes.{place_of, role_of, is_trusted}
+use Rattle.savi_history.specs.Offers.{Offer}
 use Rattle.savi_history.specs.Queues.{Item, room_at, queue}
 
 pub record Lane (A : Type 0) : Type 0 where
-  -- of its port, and whether that is trusted
+  -- of its port, whether that is trusted, and the VLANs of which it is a member
   pub number : ℕ
   pub trusted : Bool
+  pub vlans : List ℕ
   -- how many items may wait as long as its egress hasn't ended, and how many may now
   pub depth : ℕ
   pub room : ℕ
@@ -30,7 +34,14 @@ pub record Lane (A : Type 0) : Type 0 where
 
 -- the lane of a port at the start of a switch
 abbrev pub empty_lane : {A : Type 0} → ℕ → PortPlan → Lane A
-empty_lane depth p = record { number = number_of p.number; trusted = is_trusted p.role; depth = depth; room = depth; items = [] }
+empty_lane depth p = record {
+  number = number_of p.number;
+  trusted = is_trusted p.role;
+  vlans = numbers_of_vlan p.vlan;
+  depth = depth;
+  room = depth;
+  items = [];
+}
 
 -- as many items wait as may
 abbrev pub takes_none : {A : Type 0} → Lane A → Bool
@@ -44,25 +55,25 @@ takes_one lane = nat_lt (length lane.items) lane.room
 abbrev pub with_offered : {A : Type 0} → A → Lane A → Lane A
 with_offered item lane = if takes_one lane then record lane { items = lane.items ++ item ∷ [] } else lane
 
--- a probe is for the port of this number, which is trusted or not
-abbrev pub goes_at : Probe → ℕ → Bool → Bool
-goes_at Trusted number trusted = trusted
-goes_at (To port) number trusted = number_of port == number
+-- a probe in a VLAN is for the port of this number: one for the trusted ports, where that is trusted and a member of the VLAN
+abbrev pub goes_at : ℕ → Probe → ℕ → Bool → List ℕ → Bool
+goes_at vlan Trusted number trusted vlans = trusted && list_any (λ v. v == vlan) vlans
+goes_at vlan (To port) number trusted vlans = number_of port == number
 
 -- a probe goes to the lane's port, where some ports are shut
-abbrev pub goes_to : {A : Type 0} → (ℕ → Bool) → Probe → Lane A → Bool
-goes_to shut probe lane = goes_at probe lane.number lane.trusted && not (shut lane.number)
+abbrev pub goes_to : {A : Type 0} → (ℕ → Bool) → Offer → Lane A → Bool
+goes_to shut offer lane = goes_at offer.vlan offer.probe lane.number lane.trusted lane.vlans && not (shut lane.number)
 
 -- the lane once a probe was offered, which shows as this item
-abbrev pub with_probe : {A : Type 0} → (ℕ → Bool) → A → Probe → Lane A → Lane A
-with_probe shut item probe lane = if goes_to shut probe lane then with_offered item lane else lane
+abbrev pub with_probe : {A : Type 0} → (ℕ → Bool) → A → Offer → Lane A → Lane A
+with_probe shut item offer lane = if goes_to shut offer lane then with_offered item lane else lane
 
 -- the lane takes a probe, or leaves it out
-abbrev pub takes : {A : Type 0} → (ℕ → Bool) → Probe → Lane A → Bool
-takes shut probe lane = goes_to shut probe lane && takes_one lane
+abbrev pub takes : {A : Type 0} → (ℕ → Bool) → Offer → Lane A → Bool
+takes shut offer lane = goes_to shut offer lane && takes_one lane
 
-abbrev pub leaves_out : {A : Type 0} → (ℕ → Bool) → Probe → Lane A → Bool
-leaves_out shut probe lane = goes_to shut probe lane && not (takes_one lane)
+abbrev pub leaves_out : {A : Type 0} → (ℕ → Bool) → Offer → Lane A → Bool
+leaves_out shut offer lane = goes_to shut offer lane && not (takes_one lane)
 
 -- the lane once a frame was offered to these ports
 abbrev pub with_frame : {A : Type 0} → A → PortSet → Lane A → Lane A
@@ -89,13 +100,25 @@ with_ended how lane = record lane { room = 0 }
 abbrev pub with_reopened : {A : Type 0} → Bool → Lane A → Lane A
 with_reopened is_over lane = record lane { room = if is_over then 0 else lane.depth }
 
+-- the VLANs of which a port of a plan is a member
+abbrev pub numbers_by : Option Vlan → List ℕ
+numbers_by (Some vlan) = numbers_of_vlan vlan
+numbers_by None = []
+
 -- the lane of a port by the history
 abbrev pub lane_of : Plan → Base → List Row → ℕ → Lane Item
-lane_of plan base past q = record { number = q; trusted = is_trusted (role_of plan q); depth = plan.depth; room = room_at plan base past q; items = queue plan base q past }
+lane_of plan base past q = record {
+  number = q;
+  trusted = is_trusted (role_of plan q);
+  vlans = numbers_by (vlan_among plan.ports q);
+  depth = plan.depth;
+  room = room_at plan base past q;
+  items = queue plan base q past;
+}
 
 -- a lane of no port, as what stands outside of a list of lanes
 abbrev pub no_lane : {A : Type 0} → Lane A
-no_lane = record { number = 0; trusted = false; depth = 0; room = 0; items = [] }
+no_lane = record { number = 0; trusted = false; vlans = []; depth = 0; room = 0; items = [] }
 
 -- the lanes once a pass has ended for this reason: the lane of a port whose egress it is has ended
 abbrev pub AreEnded : {A : Type 0} → Plan → Who → How → List (Lane A) → List (Lane A) → Type 0

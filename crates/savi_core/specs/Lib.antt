@@ -1,4 +1,5 @@
 pub mod Batches
+pub mod Leaving
 pub mod Machines
 pub mod Steps
 pub mod PortTables
@@ -9,6 +10,8 @@ pub mod Waits
 pub mod Rings
 pub mod Counts
 pub mod Remembers
+pub mod VlanSets
+pub mod Origins
 pub mod Knows
 pub mod Tells
 pub mod Judges

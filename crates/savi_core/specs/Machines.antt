@@ -5,6 +5,7 @@ use Rattle.savi_kinds.specs.declared.plan.Plan.{Plan}
 use Rattle.savi_kinds.specs.declared.port.Port.{Port}
 use Rattle.savi_kinds.specs.Ports.{number_of}
 use Rattle.savi_kinds.specs.ValidPlan.{numbers_of}
+use Rattle.savi_kinds.specs.Vlans.{vlans_of}
 use Rattle.hist_store.specs.Rows.{Row}
 use Rattle.checkpoint.specs.Bases.{Base}
 use Rattle.checkpoint.specs.Columns.{Columns, nothing_before}
@@ -18,9 +19,13 @@ pub record Machine : Type 0 where
   pub checkpoint : Columns
   pub past : List Row
 
+-- for how many stations there is room: 256 for each pair of a port, of 16, and a VLAN of the plan
+abbrev pub station_room : Plan → ℕ
+station_room plan = 256 * (16 * length (vlans_of plan))
+
 -- the switch at its start
 abbrev pub started : Plan → Machine
-started plan = record { plan = plan; checkpoint = nothing_before (16 * plan.per_port) (256 * 16); past = [] }
+started plan = record { plan = plan; checkpoint = nothing_before (16 * plan.per_port) (station_room plan); past = [] }
 
 -- what its history goes on from
 abbrev pub base_of : Machine → Base

@@ -6,7 +6,7 @@ use Rattle.savi_kinds.specs.declared.port.PortSet.{PortSet}
 use Rattle.savi_kinds.specs.PortSets.{is_member}
 use Rattle.egress_ring.specs.declared.item.Item.{Item as Queued}
 use Rattle.egress_ring.specs.declared.item.Item.TheVariants as entries
-use Rattle.savi_access.specs.declared.sent.SentProbe.{SentProbe}
+use Rattle.savi_history.specs.Offers.{Offer}
 use Rattle.savi_core.specs.Lanes.{Lane, with_probe, takes, leaves_out}
 
 pub record Rings : Type 0 where
@@ -34,14 +34,14 @@ abbrev pub uncounted : Rings → Rings
 uncounted rings = record rings { queued = 0; lost = 0 }
 
 -- a probe as a ring keeps it
-abbrev pub ring_item : SentProbe → Queued
-ring_item sent = entries.Probe sent.due sent.address
+abbrev pub ring_item : Offer → Queued
+ring_item offer = entries.Probe offer.due offer.address offer.vlan
 
 -- the queues once a probe was offered to each port to which it goes
-abbrev pub rings_after_probe : Rings → SentProbe → Rings
-rings_after_probe rings sent = record {
-  lanes = map (with_probe (shut_in rings.shut) (ring_item sent) sent.probe) rings.lanes;
+abbrev pub rings_after_probe : Rings → Offer → Rings
+rings_after_probe rings offer = record {
+  lanes = map (with_probe (shut_in rings.shut) (ring_item offer) offer) rings.lanes;
   shut = rings.shut;
-  queued = counted rings.queued (count_by (takes (shut_in rings.shut) sent.probe) rings.lanes);
-  lost = counted rings.lost (count_by (leaves_out (shut_in rings.shut) sent.probe) rings.lanes);
+  queued = counted rings.queued (count_by (takes (shut_in rings.shut) offer) rings.lanes);
+  lost = counted rings.lost (count_by (leaves_out (shut_in rings.shut) offer) rings.lanes);
 }

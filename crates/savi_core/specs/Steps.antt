@@ -3,7 +3,7 @@ use Rattle.std.specs.Prelude.{◌≡◌, ◌≢◌, ℕ, ◌<◌, ◌≤◌, min
 use Rattle.savi_kinds.specs.declared.port.Port.{Port}
 use Rattle.savi_kinds.specs.declared.entry.Who.TheVariants.{Ingress, Control, Ticker}
 use Rattle.savi_kinds.specs.declared.entry.Entry.{Entry}
-use Rattle.frame_class.specs.Reading.{IsClassOf}
+use Rattle.frame_class.specs.Seen.{IsSeen}
 use Rattle.savi_history.specs.Limits.{has_room}
 use Rattle.savi_history.specs.Moments.{moment_at}
 use Rattle.savi_history.specs.Offers.{due_by}
@@ -20,19 +20,19 @@ use Rattle.savi_core.specs.Machines.{Machine, base_of, with_event, queue_at}
 
 -- the event that is put to the switch
 abbrev pub event_of : Event → events.Event
-event_of (given.Frame port stamp octets class) = events.Frame port stamp octets.now
+event_of (given.Frame port stamp octets seen) = events.Frame port stamp octets.now
 event_of (given.Long port stamp len) = events.Long port stamp len
 event_of (given.Command stamp line) = events.Command stamp line.now
 event_of (given.Tick stamp) = events.Tick stamp
 event_of (given.End who how) = events.End who how
 
--- the class that is given with a frame is that of its octets
-abbrev pub IsClassed : Event → Type 0
-IsClassed (given.Frame port stamp octets class) = IsClassOf octets.now class.now
-IsClassed (given.Long port stamp len) = Unit {0}
-IsClassed (given.Command stamp line) = Unit {0}
-IsClassed (given.Tick stamp) = Unit {0}
-IsClassed (given.End who how) = Unit {0}
+-- what is given with a frame is what is seen of its octets
+abbrev pub IsSeenRightly : Event → Type 0
+IsSeenRightly (given.Frame port stamp octets seen) = IsSeen octets.now seen.now
+IsSeenRightly (given.Long port stamp len) = Unit {0}
+IsSeenRightly (given.Command stamp line) = Unit {0}
+IsSeenRightly (given.Tick stamp) = Unit {0}
+IsSeenRightly (given.End who how) = Unit {0}
 
 -- an event that may be put to the switch: its pass is open, and it has the size or the reason of its kind
 abbrev pub MayStep : Machine → events.Event → Type 0

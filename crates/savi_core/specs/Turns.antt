@@ -1,12 +1,11 @@
 -- What a switch is behind a turn, and what is kept of its tables then.
-use Rattle.std.specs.Prelude.{◌≡◌, ℕ, ◌+◌, Option, None, List, [], ◌∷◌, map, slice_index_or}
+use Rattle.std.specs.Prelude.{◌≡◌, ℕ, ◌+◌, Option, None, List, [], ◌∷◌, ◌++◌, slice_index_or}
 use Rattle.std.specs.Option.{is_some}
 use Rattle.savi_kinds.specs.declared.entry.How.{How}
 use Rattle.bridge_fdb.specs.declared.station.Station.{Station}
 use Rattle.dhcp_states.specs.declared.request.Request.{Request}
 use Rattle.savi_access.specs.declared.row.Row.{Row}
 use Rattle.checkpoint.specs.Columns.{Columns}
-use Rattle.savi_history.specs.Vlans.{the_vlan}
 use Rattle.savi_segments.specs.Checkpoints.{after}
 use Rattle.savi_core.specs.Lanes.{Lane, with_reopened}
 use Rattle.savi_core.specs.Machines.{Machine, base_of}
@@ -17,23 +16,19 @@ pub record IsTurned (old new : Machine) : Type 0 where
   pub base : base_of new ≡ after old.plan (base_of old) old.past
   pub past : new.past ≡ []
 
--- all of the one VLAN that there is
-abbrev pub of_one : {A : Type 0} → List A → List (ℕ × A)
-of_one all = map (λ a. (the_vlan, a)) all
-
--- what is kept with these ends of passes, rows, requests or stations
+-- what is kept with these ends of passes, and with these rows, requests or stations of VLANs behind the others
 
 abbrev pub with_ends : List (ℕ × How) → Columns → Columns
 with_ends ended columns = record columns { ended = ended }
 
-abbrev pub with_rows : List Row → Columns → Columns
-with_rows rows columns = record columns { rows = of_one rows }
+abbrev pub with_rows : List (ℕ × Row) → Columns → Columns
+with_rows rows columns = record columns { rows = columns.rows ++ rows }
 
-abbrev pub with_requests : List Request → Columns → Columns
-with_requests requests columns = record columns { requests = of_one requests }
+abbrev pub with_requests : List (ℕ × Request) → Columns → Columns
+with_requests requests columns = record columns { requests = columns.requests ++ requests }
 
-abbrev pub with_stations : List Station → Columns → Columns
-with_stations stations columns = record columns { stations = of_one stations }
+abbrev pub with_stations : List (ℕ × Station) → Columns → Columns
+with_stations stations columns = record columns { stations = columns.stations ++ stations }
 
 -- the lanes once a new history begins, by how the passes from the first lane's on have ended for good
 abbrev pub reopened : {A : Type 0} → ℕ → List (Option How) → List (Lane A) → List (Lane A)

@@ -1,9 +1,10 @@
 //! What a drain takes.
 
-ghost use Rattle.std.specs.Prelude.{◌≡◌, ◌<◌, ◌≤◌, [], ◌∷◌, ◌++◌, length, slice_get, IfOk, IsSomeAnd};
+ghost use Rattle.std.specs.Prelude.{◌≡◌, ◌<◌, ◌≤◌, [], ◌∷◌, ◌++◌, length, slice_get, IfOk, Some};
 
 use arrayvec::ArrayVec;
-use savi_kinds::{DEPTH_MOST, FRAME_OCTETS_MOST, Moment};
+use eth_frame::CUSTOMER_TAG;
+use savi_kinds::{DEPTH_MOST, FRAME_OCTETS_OUT_MOST, Moment};
 use std::alloc::{AllocError, Global};
 use std::marker::Model;
 
@@ -11,7 +12,7 @@ use std::marker::Model;
 #[derive(Drop)]
 pub struct Slot {
     moment: Moment,
-    octets: ArrayVec<u8, FRAME_OCTETS_MOST>,
+    octets: ArrayVec<u8, FRAME_OCTETS_OUT_MOST>,
 }
 
 impl Model for Slot {
@@ -23,7 +24,9 @@ impl Model for Slot {
 }
 
 impl Slot {
+    ghost use Rattle.std.specs.Prelude.{◌+◌};
     ghost use Rattle.savi_core.specs.Batches.{item_with};
+    ghost use Rattle.savi_core.specs.Leaving.{tag_octets};
 
     /// A slot with nothing in it.
     fn new() -> Slot
@@ -35,13 +38,29 @@ impl Slot {
         }
     }
 
-    /// Puts an item in place of what is there.
-    fn set(&mut self, moment: Moment, octets: &[u8])
-        requires { length octets.now ≤ 1518 }
-        ensures { self.new ≡ item_with moment octets.now }
+    /// Puts an item in place of what is there: these octets, the tag of a VLAN where there is one, and these octets.
+    fn set(&mut self, moment: Moment, front: &[u8], tag: Option<u16>, rest: &[u8])
+        requires { length front.now + length rest.now ≤ 1518 }
+        ensures { self.new ≡ item_with moment (front.now ++ tag_octets tag ++ rest.now) }
     {
         self.moment = moment;
         self.octets.clear();
+        self.append(front);
+        if let Some(vlan) = tag {
+            let [kind_high, kind_low] = CUSTOMER_TAG.to_be_bytes();
+            let [high, low] = vlan.to_be_bytes();
+            self.append(&[kind_high, kind_low, high, low]);
+        }
+        if !rest.is_empty() {
+            self.append(rest);
+        }
+    }
+
+    // Appends octets for which there is room.
+    fn append(&mut self, octets: &[u8])
+        requires { length self.old.octets + length octets.now ≤ FRAME_OCTETS_OUT_MOST }
+        ensures { self.new ≡ item_with self.old.moment (self.old.octets ++ octets.now) }
+    {
         match self.octets.try_extend_from_slice(octets) {
             Ok(()) => {}
             Err(_) => unreachable!(),
@@ -68,9 +87,11 @@ impl Model for Batch {
 }
 
 impl Batch {
+    ghost use Rattle.std.specs.Prelude.{◌+◌};
     ghost use Rattle.savi_core.specs.Batches.{item_with};
+    ghost use Rattle.savi_core.specs.Leaving.{tag_octets};
 
-    /// An empty batch, with room for 256 items of 1,518 octets. It takes all its memory here.
+    /// An empty batch, with room for 256 items of 1,522 octets. It takes all its memory here.
     pub fn make(alloc: Global) -> Result<Batch, AllocError>
         ensures { IfOk result (λ batch. batch ≡ []) }
     {
@@ -92,7 +113,7 @@ impl Batch {
     pub fn item(&self, i: u32) -> (u64, &[u8])
         requires { i < length self.now }
         ensures item { slice_get self.now i ≡ Some (item_with result.0 result.1.now) }
-        ensures size { length result.1.now ≤ 1518 }
+        ensures size { length result.1.now ≤ 1522 }
     {
         let slot = &self.slots[i as usize];
         (slot.moment, slot.octets.as_slice())
@@ -105,13 +126,14 @@ impl Batch {
         self.used = 0;
     }
 
-    /// Adds a frame or a probe. O(1) beside the copy of its octets.
-    pub(crate) fn put(&mut self, moment: Moment, octets: &[u8])
+    /// Adds a frame or a probe, which goes out with the tag of this VLAN behind the front of its octets, or with none. O(1)
+    /// beside the copy of its octets, which are copied once.
+    pub(crate) fn put(&mut self, moment: Moment, front: &[u8], tag: Option<u16>, rest: &[u8])
         requires room { length self.old < 256 }
-        requires size { length octets.now ≤ 1518 }
-        ensures { self.new ≡ self.old ++ item_with moment octets.now ∷ [] }
+        requires size { length front.now + length rest.now ≤ 1518 }
+        ensures { self.new ≡ self.old ++ item_with moment (front.now ++ tag_octets tag ++ rest.now) ∷ [] }
     {
-        self.slots[self.used].set(moment, octets);
+        self.slots[self.used].set(moment, front, tag, rest);
         self.used += 1;
     }
 }

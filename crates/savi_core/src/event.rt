@@ -1,17 +1,17 @@
 //! What is put to the switch, and what it answers.
 
-use frame_class::Class;
+use frame_class::Seen;
 use savi_kinds::{Entry, How, Port, Who};
 
 /// What happens to the switch.
 #[derive(Clone, Copy)]
 pub enum Event<'a> {
-    /// A frame of at most 1,518 octets came in, of this class; the stamp is in ms.
+    /// A frame of at most 1,518 octets came in, of which this is seen; the stamp is in ms.
     Frame {
         port: Port,
         stamp: u64,
         octets: &'a [u8],
-        class: &'a Class,
+        seen: &'a Seen,
     },
     /// A frame of more than 1,518 octets came in; the stamp is in ms.
     Long {

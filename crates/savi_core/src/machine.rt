@@ -1,6 +1,6 @@
 //! The machine.
 
-ghost use Rattle.std.specs.Prelude.{◌≡◌, ◌≤◌, ◌<◌, ◌^◌, true, false, not, ◌&&◌, ◌||◌, ℕ, List, [], length, slice_get, reverse, IfOk, IsSomeAnd, Some, ◌+◌, Option};
+ghost use Rattle.std.specs.Prelude.{◌≡◌, ◌≤◌, ◌<◌, ◌^◌, true, false, not, ◌&&◌, [], length, slice_get, reverse, IfOk, IsSomeAnd, Some, ◌+◌, Option};
 ghost use Rattle.std.specs.Bool.{OnTrue};
 ghost use Rattle.savi_kinds.specs.Ports.{number_of};
 ghost use Rattle.savi_kinds.specs.ValidPlan.{IsValidPlan, IsWithin};
@@ -13,31 +13,30 @@ ghost use Rattle.savi_history.specs.Shown.{counts_of, reply_to, shown};
 ghost use Rattle.savi_history.specs.Events as events;
 ghost use Rattle.savi_history.specs.Endings.{has_pause};
 ghost use Rattle.savi_history.specs.Legal.{IsLegal, IsFinished};
-ghost use Rattle.savi_core.specs.Machines.{HasShortQueues, base_of, started, row_at, queue_at, port_number_at, with_event};
+ghost use Rattle.savi_core.specs.Machines.{HasShortQueues, base_of, started, row_at, queue_at, with_event};
 ghost use Rattle.savi_core.specs.Counts.{open_below};
 ghost use Rattle.savi_core.specs.Turns.{IsTurned};
 ghost use Rattle.savi_core.specs.Refused.{EndsWithCommand};
-ghost use Rattle.frame_class.specs.Reading.{IsClassOf};
-ghost use Rattle.savi_core.specs.Steps.{event_of, IsClassed, MayStep, Did, Drained, entry_of};
+ghost use Rattle.frame_class.specs.Seen.{IsSeen};
+ghost use Rattle.savi_core.specs.Steps.{event_of, IsSeenRightly, MayStep, Did, Drained, entry_of};
 
 use crate::batch::Batch;
 use crate::commands::{fault_refusal, obey};
 use crate::ends::Ends;
 use crate::entries::{moment_at, plain_entry};
 use crate::event::{Event, Stepped};
-use crate::judging::{age, judge, judge_long};
+use crate::judging::{age, is_due, judge, judge_long};
 use crate::passes::Passes;
 use crate::ports::Ports;
 use crate::queues::Queues;
 use crate::shows::{show_bindings, show_ports, show_stations, times_of};
 use crate::stations::{outs, teach};
 use crate::turning::{keep_ends, keep_requests, keep_rows, keep_stations};
-use access_table::AccessTable;
-use bridge_fdb::Fdb;
+use crate::vlan_set::{VlanSet, make_sets};
 use checkpoint::Checkpoint;
 use cli_lang::{CmdFault, Command, command};
 use control_replies::{Counts, Refusal, Reply};
-use frame_class::Class;
+use frame_class::Seen;
 use hist_store::{Hist, JournalLine};
 use savi_history::histories_tell_rightly;
 use savi_kinds::{
@@ -48,7 +47,7 @@ use std::alloc::{AllocError, Global};
 use std::marker::Model;
 
 /// A switch that guards messages, validates sources, learns stations, and sends what passes to the port of its destination
-/// where that is known.
+/// where that is known: each VLAN has addresses, requests and stations of its own (IEEE 802.1Q).
 /// Contracts see its plan, what its history goes on from, and the history with the newest row first, which is always legal.
 /// All memory is taken by `make`.
 #[derive(Drop)]
@@ -61,8 +60,8 @@ pub struct Core {
     // how passes have ended for good
     ends: Ends,
     queues: Queues,
-    access: AccessTable,
-    fdb: Fdb,
+    // for each VLAN of the plan, in rising order
+    sets: Vec<VlanSet>,
     tally: Counts,
     // why the newest entry was refused, where it is a command's
     refused: Option<Refusal>,
@@ -73,11 +72,10 @@ impl Model for Core {
     ghost use Rattle.savi_history.specs.Shown.{counts_of};
     ghost use Rattle.checkpoint.specs.Columns.{kept_base as base_kept};
     ghost use Rattle.savi_history.specs.Passes.{control_pass};
-    ghost use Rattle.savi_core.specs.Machines.{Machine};
+    ghost use Rattle.savi_core.specs.Machines.{Machine, station_room};
     ghost use Rattle.savi_core.specs.Ends.{AreEnds};
     ghost use Rattle.savi_core.specs.Remembers.{Remembers};
-    ghost use Rattle.savi_core.specs.Knows.{Knows};
-    ghost use Rattle.savi_core.specs.Tells.{Tells};
+    ghost use Rattle.savi_core.specs.Tells.{TellOfAll};
     ghost use Rattle.savi_core.specs.Refused.{IsRefusal};
 
     ghost Value = { Machine };
@@ -88,13 +86,12 @@ impl Model for Core {
         × (c.hist.entry_room ≡ c.ports.entries)
         × (c.hist.byte_room ≡ c.ports.bytes)
         × (c.passes.inputs ≡ control_pass c.ports + 1)
-        × Knows c.fdb c.moment (base_kept c.checkpoint) (reverse c.hist.rows)
-        × Tells c.ports (base_kept c.checkpoint) (reverse c.hist.rows) c.moment c.access
+        × TellOfAll c.ports (base_kept c.checkpoint) (reverse c.hist.rows) c.moment c.sets.items
         × IsRefusal c.ports (base_kept c.checkpoint) (reverse c.hist.rows) c.refused
         × (c.tally ≡ counts_of (base_kept c.checkpoint) (reverse c.hist.rows))
         × AreEnds c.ports (base_kept c.checkpoint) (reverse c.hist.rows) c.ends
         × (c.checkpoint.row_room ≡ 16 * c.ports.per_port)
-        × (c.checkpoint.station_room ≡ 256 * 16) };
+        × (c.checkpoint.station_room ≡ station_room c.ports) };
 }
 
 impl Core {
@@ -103,22 +100,23 @@ impl Core {
         requires { IsValidPlan plan }
         ensures { IfOk result (λ core. core ≡ started plan) }
     {
-        let checkpoint = Checkpoint::make(alloc, plan.per_port, PORTS_MOST as u32)?;
         let hist = Hist::make(alloc, plan.entries, plan.bytes)?;
         let queues = Queues::make(alloc, plan.ports.as_slice(), plan.depth)?;
-        let access = AccessTable::make(alloc, &plan)?;
-        let fdb = Fdb::make(alloc)?;
         let inputs = plan.ports.as_slice().len() as u32 + 1;
+        let per_port = plan.per_port;
+        let ports = Ports::make(plan);
+        let pairs = PORTS_MOST as u32 * ports.vlan_count() as u32;
+        let checkpoint = Checkpoint::make(alloc, per_port, pairs)?;
+        let sets = make_sets(alloc, &ports)?;
         Ok(Core {
-            ports: Ports::make(plan),
+            ports,
             checkpoint,
             hist,
             moment: 0,
             passes: Passes::make(inputs),
             ends: Ends::make(inputs),
             queues,
-            access,
-            fdb,
+            sets,
             tally: Counts::none(),
             refused: None,
         })
@@ -127,13 +125,13 @@ impl Core {
     /// Enters an event. The answer is `Full`, and nothing has changed, exactly where it is a frame, a line or a tick and
     /// the history has no room for another input. It is `Nothing`, and nothing has changed, exactly where it is a tick for
     /// which there is room and no address has another state by its moment; then no probe is due either. Else it is the one
-    /// entry that was made. A frame is judged by its class, which the caller has read of its octets. It costs what
+    /// entry that was made. A frame is judged by what is seen of it, which the caller has read of its octets. It costs what
     /// `AccessTable::age_to` costs of what falls due by then, with O(ports) for each probe, and for a frame what
     /// `AccessTable::judge` costs, then O(n) in the ports to which it goes and O(log n) in the stations that are kept,
     /// beside the copy of the octets and what `Fdb::learn` takes for a station that is new at its port.
     pub fn step(&mut self, ev: Event<'_>) -> Stepped
         requires may { MayStep self.old (event_of ev) }
-        requires class { IsClassed ev }
+        requires seen { IsSeenRightly ev }
         ensures { Did self.old (event_of ev.entry) self.new result }
     {
         match ev {
@@ -141,8 +139,8 @@ impl Core {
                 port,
                 stamp,
                 octets,
-                class,
-            } => self.frame(port, stamp, octets, class),
+                seen,
+            } => self.frame(port, stamp, octets, seen),
             Event::Long { port, stamp, len } => self.long(port, stamp, len),
             Event::Command { stamp, line } => self.command(stamp, line),
             Event::Tick { stamp } => self.tick(stamp),
@@ -166,7 +164,7 @@ impl Core {
         }
         let entry = self.drain_entry(port, count);
         self.queues
-            .drain(place, &self.hist, self.ports.plan().mac, count, into);
+            .drain(place, &self.hist, &self.ports, count, into);
         self.moment = entry.moment;
         self.tally.add(&entry);
         self.hist.append(entry, &[]);
@@ -268,17 +266,16 @@ impl Core {
         requires empty { into.old ≡ [] }
         ensures { into.new ≡ reply_to self.now.plan (base_of self.now) self.now.past (last_moment (base_of self.now) self.now.past) order }
     {
+        let sets = self.sets.as_slice();
         match order {
-            Ok(Command::ShowBindings) => {
-                show_bindings(&self.access, &times_of(self.ports.plan()), into);
-            }
+            Ok(Command::ShowBindings) => show_bindings(sets, &times_of(self.ports.plan()), into),
             Ok(Command::ShowPorts) => {
-                show_ports(&self.access, &self.queues, &self.ports, self.moment, into);
+                show_ports(sets, &self.queues, &self.ports, self.moment, into);
             }
             Ok(Command::ShowCounters) => into.put_counters(self.counts()),
-            Ok(Command::ShowStations) => show_stations(&self.fdb, self.moment, into),
+            Ok(Command::ShowStations) => show_stations(sets, self.moment, into),
             Ok(
-                Command::Clear(_)
+                Command::Clear(_, _)
                 | Command::Static(_, _)
                 | Command::Shut(_)
                 | Command::Reopen(_)
@@ -336,9 +333,10 @@ impl Core {
         self.checkpoint
             .begin(self.moment, self.queues.shut_ports(), &self.tally);
         keep_ends(&mut self.checkpoint, &self.ends, 2 * ports + 2);
-        keep_rows(&mut self.checkpoint, &self.access);
-        keep_requests(&mut self.checkpoint, &self.access, self.moment);
-        keep_stations(&mut self.checkpoint, &self.fdb, self.moment);
+        let sets = self.sets.as_slice();
+        keep_rows(&mut self.checkpoint, sets);
+        keep_requests(&mut self.checkpoint, sets, self.moment);
+        keep_stations(&mut self.checkpoint, sets, self.moment);
         self.hist.clear();
         self.passes = self.ends.passes();
         self.queues.reopen(ports + 2, &self.ends);
@@ -356,13 +354,13 @@ impl Core {
     }
 
     // Enters a frame.
-    fn frame(&mut self, port: Port, stamp: u64, octets: &[u8], class: &Class) -> Stepped
+    fn frame(&mut self, port: Port, stamp: u64, octets: &[u8], seen: &Seen) -> Stepped
         requires may { MayStep self.old (events.Frame port stamp octets.now) }
-        requires class { IsClassOf octets.now class.now }
+        requires seen { IsSeen octets.now seen.now }
         ensures { Did self.old (events.Frame port stamp octets.now) self.new result }
     {
         if self.has_room() {
-            Stepped::Done(self.enter_frame(port, stamp, octets, class))
+            Stepped::Done(self.enter_frame(port, stamp, octets, seen))
         } else {
             Stepped::Full {
                 len: self.hist.len(),
@@ -371,30 +369,33 @@ impl Core {
     }
 
     // Enters a frame for which there is room. The answer is its entry.
-    fn enter_frame(&mut self, port: Port, stamp: u64, octets: &[u8], class: &Class) -> Entry
+    fn enter_frame(&mut self, port: Port, stamp: u64, octets: &[u8], seen: &Seen) -> Entry
         requires may { MayStep self.old (events.Frame port stamp octets.now) }
         requires room { has_room self.old.plan self.old.past ≡ true }
-        requires class { IsClassOf octets.now class.now }
+        requires seen { IsSeen octets.now seen.now }
         ensures entered { self.new ≡ with_event self.old (events.Frame port stamp octets.now) }
         ensures entry { result ≡ entry_of self.old (events.Frame port stamp octets.now) }
     {
         let by = self.ports.pass_of(Who::Ingress(port));
         let moment = moment_at(self.moment, stamp);
         let act = self.frame_act(port, stamp, octets);
+        let class = &seen.class;
+        let origin = self.ports.origin_of(port, seen.tag);
+        let sets = self.sets.as_mut_slice();
         let verdict = judge(
-            &mut self.access,
+            sets,
             &mut self.queues,
-            self.ports.plan(),
-            port,
+            &self.ports,
+            origin,
             class,
             self.moment,
             moment,
         );
         let outs = outs(
             &self.ports,
-            &self.fdb,
+            sets,
             &self.queues,
-            port,
+            origin,
             moment,
             class,
             verdict,
@@ -410,7 +411,7 @@ impl Core {
             probes: self.queues.queued(),
             lost: self.queues.lost(),
         };
-        teach(&mut self.fdb, port, moment, class, verdict);
+        teach(sets, origin, moment, class, verdict);
         self.moment = moment;
         self.tally.add(&entry);
         self.hist.append(entry, octets);
@@ -450,8 +451,9 @@ impl Core {
         }
         let by = self.ports.pass_of(Who::Ingress(port));
         let moment = moment_at(self.moment, stamp);
+        let sets = self.sets.as_mut_slice();
         age(
-            &mut self.access,
+            sets,
             &mut self.queues,
             self.ports.plan(),
             self.moment,
@@ -481,8 +483,9 @@ impl Core {
         }
         let by = self.ports.pass_of(Who::Control);
         let moment = moment_at(self.moment, stamp);
+        let sets = self.sets.as_mut_slice();
         age(
-            &mut self.access,
+            sets,
             &mut self.queues,
             self.ports.plan(),
             self.moment,
@@ -498,13 +501,7 @@ impl Core {
             lost: self.queues.lost(),
             ..plain_entry(by, moment, act)
         };
-        self.refused = obey(
-            &mut self.access,
-            &mut self.queues,
-            &self.ports,
-            line,
-            moment,
-        );
+        self.refused = obey(sets, &mut self.queues, &self.ports, line, moment);
         self.moment = entry.moment;
         self.tally.add(&entry);
         self.hist.append(entry, line);
@@ -522,12 +519,13 @@ impl Core {
             };
         }
         let moment = moment_at(self.moment, stamp);
-        if !self.access.is_due(moment) {
+        let sets = self.sets.as_mut_slice();
+        if !is_due(sets, moment) {
             return Stepped::Nothing;
         }
         let by = self.ports.pass_of(Who::Ticker);
         age(
-            &mut self.access,
+            sets,
             &mut self.queues,
             self.ports.plan(),
             self.moment,

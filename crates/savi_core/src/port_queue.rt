@@ -2,18 +2,21 @@
 
 ghost use Rattle.std.specs.Prelude.{◌≡◌, ◌≤◌, not, [], length, map, take, drop, All, IfOk, Some, None, if◌then◌else◌};
 ghost use Rattle.savi_core.specs.Lanes.{empty_lane, goes_at, goes_to, takes_one, takes_none, with_offered, with_probe, with_drained, with_ended, with_reopened};
+ghost use Rattle.savi_kinds.specs.Ports.{number_of};
+ghost use Rattle.savi_kinds.specs.Vlans.{numbers_of_vlan};
+ghost use Rattle.savi_history.specs.Offers.{offer_of};
 ghost use Rattle.egress_ring.specs.declared.item.Item.TheVariants as entries;
 ghost use Rattle.savi_core.specs.Rings.{ring_item, shut_in};
 ghost use Rattle.savi_core.specs.Waits.{AreThere, IsThere, queued_item};
 
 use crate::batch::Batch;
-use crate::ports::is_trusted;
+use crate::outgoing::{put_frame, put_probe};
+use crate::ports::{Ports, is_trusted};
 use egress_ring::{EgressRing, Item};
 use fcfs_states::Probe;
 use hist_store::Hist;
-use probe_write::probe;
 use savi_access::SentProbe;
-use savi_kinds::{How, Mac, Port, PortPlan, PortSet};
+use savi_kinds::{How, Port, PortPlan, PortSet, Vlan, Vlans};
 use std::alloc::{AllocError, Global};
 use std::marker::Model;
 
@@ -22,6 +25,8 @@ use std::marker::Model;
 pub struct PortQueue {
     port: Port,
     trusted: bool,
+    // the VLANs of which the port is a member
+    vlans: Vlans,
     room: u32,
     ring: EgressRing,
 }
@@ -34,7 +39,7 @@ impl Model for PortQueue {
 
     ghost Value = { Lane Queued };
 
-    ghost view = { λ q. record { number = number_of q.port; trusted = q.trusted; depth = q.ring.depth; room = q.room; items = q.ring.items } };
+    ghost view = { λ q. record { number = number_of q.port; trusted = q.trusted; vlans = q.vlans.items; depth = q.ring.depth; room = q.room; items = q.ring.items } };
 
     ghost invariant = { λ q. q.room ≤ q.ring.depth };
 }
@@ -47,6 +52,7 @@ impl PortQueue {
         Ok(PortQueue {
             port: plan.number,
             trusted: is_trusted(plan.role),
+            vlans: vlans_of(plan),
             room: depth,
             ring: EgressRing::make(alloc, depth)?,
         })
@@ -71,12 +77,12 @@ impl PortQueue {
         self.ring.queue(item)
     }
 
-    // Whether a probe is for this port.
-    fn is_for(&self, probe: Probe) -> bool
-        ensures { result ≡ goes_at probe self.now.number self.now.trusted }
+    // Whether a probe in a VLAN is for this port.
+    fn is_for(&self, vlan: u16, probe: Probe) -> bool
+        ensures { result ≡ goes_at vlan probe self.now.number self.now.trusted self.now.vlans }
     {
         match probe {
-            Probe::Trusted => self.trusted,
+            Probe::Trusted => self.trusted && self.vlans.as_slice().contains(&vlan),
             Probe::To(port) => port.get() == self.port.get(),
         }
     }
@@ -88,19 +94,20 @@ impl PortQueue {
         shut.contains(self.port)
     }
 
-    /// Offers a probe, where it goes to this port; to shut ports none goes. The answer is whether it joins; `None` where it
-    /// goes elsewhere. O(1).
-    pub fn offer_probe(&mut self, sent: SentProbe, shut: PortSet) -> Option<bool>
-        ensures lane { self.new ≡ with_probe (shut_in shut) (ring_item sent) sent.probe self.old }
-        ensures joined { result ≡ (if goes_to (shut_in shut) sent.probe self.old then Some (takes_one self.old) else None) }
+    /// Offers a probe of a VLAN, where it goes to this port; to shut ports none goes. The answer is whether it joins; `None`
+    /// where it goes elsewhere. O(1): of at most 8 VLANs.
+    pub fn offer_probe(&mut self, vlan: u16, sent: SentProbe, shut: PortSet) -> Option<bool>
+        ensures lane { self.new ≡ with_probe (shut_in shut) (ring_item (offer_of vlan sent)) (offer_of vlan sent) self.old }
+        ensures joined { result ≡ (if goes_to (shut_in shut) (offer_of vlan sent) self.old then Some (takes_one self.old) else None) }
     {
-        let goes = self.is_for(sent.probe) && !self.is_in(shut);
+        let goes = self.is_for(vlan, sent.probe) && !self.is_in(shut);
         if !goes {
             return None;
         }
         Some(self.offer(Item::Probe {
             due: sent.due,
             target: sent.address,
+            vid: vlan,
         }))
     }
 
@@ -112,17 +119,17 @@ impl PortQueue {
         !self.offer(Item::Frame(n))
     }
 
-    /// Moves so many items from the front into an empty batch; `mac` is the source of probes. O(count) beside the copies of
-    /// their octets.
-    pub fn drain(&mut self, hist: &Hist, mac: Mac, count: u32, into: &mut Batch)
+    /// Moves so many items from the front into an empty batch, each as it goes out at this port of the plan. O(count) beside
+    /// the copies of their octets.
+    pub fn drain(&mut self, hist: &Hist, ports: &Ports, count: u32, into: &mut Batch)
         requires there { AreThere hist.now.rows self.old }
         requires count { count ≤ length self.old.items }
         requires most { count ≤ 256 }
         requires empty { into.old ≡ [] }
         ensures left { self.new ≡ with_drained count self.old }
-        ensures taken { into.new ≡ take count (map (queued_item mac hist.now.rows) self.old.items) }
+        ensures taken { into.new ≡ take count (map (queued_item ports.now hist.now.rows self.old.number) self.old.items) }
     {
-        move_items(&mut self.ring, hist, mac, count, into);
+        move_items(&mut self.ring, hist, ports, self.port, count, into);
     }
 
     /// Nothing joins any more, since the port's egress has ended for this reason; after a failed write all is given up.
@@ -145,19 +152,43 @@ impl PortQueue {
     }
 }
 
-// Moves so many items from the front of a ring into an empty batch.
-fn move_items(queue: &mut EgressRing, hist: &Hist, mac: Mac, count: u32, into: &mut Batch)
+// The VLANs of which a port of a plan is a member.
+fn vlans_of(port: &PortPlan) -> Vlans
+    ensures { result.items ≡ numbers_of_vlan port.now.vlan }
+{
+    let mut vlans = Vlans::new();
+    match &port.vlan {
+        Vlan::Access(vlan) => vlans.push(*vlan),
+        Vlan::Trunk(listed) => match vlans.try_extend_from_slice(listed.as_slice()) {
+            Ok(()) => {}
+            Err(_) => unreachable!(),
+        },
+    }
+    vlans
+}
+
+// Moves so many items from the front of a ring into an empty batch, each as it goes out at a port of the plan.
+fn move_items(
+    queue: &mut EgressRing,
+    hist: &Hist,
+    ports: &Ports,
+    port: Port,
+    count: u32,
+    into: &mut Batch,
+)
     requires there { All (IsThere hist.now.rows) queue.old.items }
     requires count { count ≤ length queue.old.items }
     requires most { count ≤ 256 }
     requires empty { into.old ≡ [] }
     ensures left { queue.new ≡ record queue.old { items = drop count queue.old.items } }
-    ensures taken { into.new ≡ take count (map (queued_item mac hist.now.rows) queue.old.items) }
+    ensures taken { into.new ≡ take count (map (queued_item ports.now hist.now.rows (number_of port)) queue.old.items) }
 {
     while into.len() < count {
         match queue.take() {
-            Some(Item::Frame(n)) => into.put(hist.entry(n).moment, hist.octets(n)),
-            Some(Item::Probe { due, target }) => into.put(due, &probe(mac, target)),
+            Some(Item::Frame(n)) => put_frame(into, hist, ports, port, n),
+            Some(Item::Probe { due, target, vid }) => put_probe(
+                into, ports, port, due, target, vid,
+            ),
             None => unreachable!(),
         }
     }

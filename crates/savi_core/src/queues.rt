@@ -6,6 +6,7 @@ ghost use Rattle.savi_core.specs.Lanes.{cut_at, empty_lane, with_frame, with_dra
 ghost use Rattle.savi_kinds.specs.Ports.{number_of};
 ghost use Rattle.savi_kinds.specs.PortSets.{is_member, no_ports};
 ghost use Rattle.savi_kinds.specs.ValidPlan.{IsValidPlan, numbers_of};
+ghost use Rattle.savi_history.specs.Offers.{offer_of};
 ghost use Rattle.savi_history.specs.Passes.{has_port, has_pass};
 ghost use Rattle.savi_core.specs.Rings.{Rings, uncounted, rings_after_probe, shut_in, with_shut};
 ghost use Rattle.savi_core.specs.Turns.{reopened};
@@ -19,7 +20,7 @@ use crate::ports::Ports;
 use addr_table::ProbeSink;
 use hist_store::Hist;
 use savi_access::SentProbe;
-use savi_kinds::{How, Mac, Port, PortPlan, PortSet, Who};
+use savi_kinds::{How, Port, PortPlan, PortSet, Who};
 use std::alloc::{AllocError, Global};
 use std::marker::Model;
 
@@ -42,13 +43,13 @@ impl Model for Queues {
 }
 
 impl ProbeSink for Queues {
-    ghost after = { rings_after_probe };
+    ghost after = { λ rings vlan sent. rings_after_probe rings (offer_of vlan sent) };
 
-    /// Offers a probe to the queue of each port to which it goes, in their order; none goes to a shut port. O(n) in the
-    /// ports of the plan, at most 16.
-    fn take(&mut self, sent: SentProbe) {
+    /// Offers a probe of a VLAN to the queue of each port to which it goes, in their order; none goes to a shut port. O(n) in
+    /// the ports of the plan, at most 16.
+    fn take(&mut self, vlan: u16, sent: SentProbe) {
         for place in 0..self.queues.len() {
-            match self.queues[place].offer_probe(sent, self.shut) {
+            match self.queues[place].offer_probe(vlan, sent, self.shut) {
                 Some(true) => self.queued = self.queued.saturating_add(1),
                 Some(false) => self.lost = self.lost.saturating_add(1),
                 None => {}
@@ -151,18 +152,18 @@ impl Queues {
         cuts
     }
 
-    /// Moves so many items from the front of the queue at this place of the plan into an empty batch; `mac` is the source of
-    /// probes. O(count) beside the copies of their octets.
-    pub fn drain(&mut self, place: usize, hist: &Hist, mac: Mac, count: u32, into: &mut Batch)
+    /// Moves so many items from the front of the queue at this place of the plan into an empty batch, each as it goes out at
+    /// the port there. O(count) beside the copies of their octets.
+    pub fn drain(&mut self, place: usize, hist: &Hist, ports: &Ports, count: u32, into: &mut Batch)
         requires place { place < length self.old.lanes }
         requires there { AreThere hist.now.rows (slice_index_or self.old.lanes place no_lane) }
         requires count { count ≤ length (slice_index_or self.old.lanes place no_lane).items }
         requires most { count ≤ 256 }
         requires empty { into.old ≡ [] }
         ensures left { self.new ≡ record self.old { lanes = slice_set self.old.lanes place (with_drained count (slice_index_or self.old.lanes place no_lane)) } }
-        ensures taken { into.new ≡ take count (map (queued_item mac hist.now.rows) (slice_index_or self.old.lanes place no_lane).items) }
+        ensures taken { into.new ≡ take count (map (queued_item ports.now hist.now.rows (slice_index_or self.old.lanes place no_lane).number) (slice_index_or self.old.lanes place no_lane).items) }
     {
-        self.queues[place].drain(hist, mac, count, into);
+        self.queues[place].drain(hist, ports, count, into);
     }
 
     /// A new history begins: items may join again at each port whose egress hasn't ended for good. `first` is the number of

@@ -1,22 +1,26 @@
-//! What frames say of stations: where one goes whose destination is known, and what one teaches (IEEE 802.1Q sections 8.6.3
-//! and 8.7).
+//! What frames say of stations in their VLAN: where one goes whose destination is known, and what one teaches (IEEE 802.1Q
+//! sections 8.6.3 and 8.7).
 
-ghost use Rattle.std.specs.Prelude.{◌≡◌, ◌≤◌, ◌^◌, ◌==◌, ◌&&◌, not, ℕ, List, All, true, Some, if◌then◌else◌};
+ghost use Rattle.std.specs.Prelude.{◌≡◌, ◌≤◌, ◌<◌, ◌^◌, ◌==◌, ◌&&◌, not, ℕ, List, All, map, length, true, IfSome, if◌then◌else◌};
+ghost use Rattle.savi_kinds.specs.declared.verdict.Verdict.TheVariants.{Pass};
 ghost use Rattle.savi_kinds.specs.Ports.{number_of};
 ghost use Rattle.savi_kinds.specs.PortSets.{is_member, set_of};
+ghost use Rattle.savi_kinds.specs.Vlans.{vlans_of};
 ghost use Rattle.frame_class.specs.Classes.{eth_of};
 ghost use Rattle.bridge_fdb.specs.Stations.{live_at};
 ghost use Rattle.savi_history.specs.Stations.{port_among, taught};
 ghost use Rattle.savi_history.specs.Outs.{directed, outs_by};
 ghost use Rattle.savi_history.specs.Passes.{has_port};
-ghost use Rattle.savi_history.specs.Summary.{is_pass};
+ghost use Rattle.savi_core.specs.Origins.{IsOrigin, known_at, outs_from, teaches_at};
 ghost use Rattle.savi_core.specs.Rings.{shut_in};
+ghost use Rattle.savi_core.specs.VlanSets.{fdb_at, vlan_at_place, vlan_of_place, vlans_of_sets};
 
-use crate::ports::Ports;
+use crate::ports::{Origin, Ports};
 use crate::queues::Queues;
+use crate::vlan_set::VlanSet;
 use bridge_fdb::Fdb;
 use frame_class::Class;
-use savi_kinds::{Moment, Port, PortSet, Verdict};
+use savi_kinds::{Moment, Port, PortSet, Scope, Verdict};
 
 /// The port of the station that is live at moment `t` (ms) and that a frame of this class is for: `None` where there is
 /// none, and for a group address. O(log n) in the stations that are kept.
@@ -35,15 +39,27 @@ fn known_port(fdb: &Fdb, class: &Class, t: Moment) -> Option<Port>
     }
 }
 
-/// A frame of this class with this verdict came in at a port at moment `t` (ms, at most 2^62): where it passes, its source
-/// is learned there. The cost is that of `Fdb::learn`.
-pub(crate) fn teach(fdb: &mut Fdb, port: Port, t: Moment, class: &Class, verdict: Verdict)
-    requires { t ≤ 2 ^ 62 }
-    ensures { live_at t fdb.new ≡ (if is_pass (Some verdict) then taught port t (eth_of class.now) (live_at t fdb.old) else live_at t fdb.old) }
+/// A frame of this class with this verdict came in at moment `t` (ms, at most 2^62): where it passes, its source is learned
+/// at its port in its VLAN. The cost is that of `Fdb::learn`.
+pub(crate) fn teach(
+    sets: &mut [VlanSet],
+    origin: Origin,
+    t: Moment,
+    class: &Class,
+    verdict: Verdict,
+)
+    requires moment { t ≤ 2 ^ 62 }
+    requires within { IfSome origin.set (λ set. set < length sets.old) }
+    ensures access { map (λ set. set.access) sets.new ≡ map (λ set. set.access) sets.old }
+    ensures taught { (place : ℕ) → place < length sets.old → live_at t (fdb_at sets.new place)
+        ≡ (if teaches_at origin.set verdict place then taught origin.port t (eth_of class.now) (live_at t (fdb_at sets.old place)) else live_at t (fdb_at sets.old place)) }
 {
-    match verdict {
-        Verdict::Pass(_) => learn(fdb, port, t, class),
-        Verdict::Drop(_) => {}
+    match (origin.set, verdict) {
+        (Some(set), Verdict::Pass(_)) => {
+            let fdb = &mut sets[set].fdb;
+            learn(fdb, origin.port, t, class);
+        }
+        _ => {}
     }
 }
 
@@ -57,42 +73,43 @@ fn learn(fdb: &mut Fdb, port: Port, t: Moment, class: &Class)
     }
 }
 
-/// The ports to which a frame of this class with this verdict goes from a port of the plan, at moment `t` (ms): none of
-/// those that are shut. O(log n) in the stations that are kept.
+/// The ports to which a frame of this class with this verdict goes, at moment `t` (ms): members of its VLAN, none of those
+/// that are shut. O(log n) in the stations that are kept.
 pub(crate) fn outs(
     ports: &Ports,
-    fdb: &Fdb,
+    sets: &[VlanSet],
     queues: &Queues,
-    port: Port,
+    origin: Origin,
     t: Moment,
     class: &Class,
     verdict: Verdict,
 ) -> PortSet
+    requires vlans { vlans_of_sets sets.now ≡ vlans_of ports.now }
+    requires origin { IsOrigin ports.now origin }
     ensures known { (n : ℕ) → 1 ≤ n → is_member result n ≡ true → has_port ports.now n ≡ true }
-    ensures outs { (n : ℕ) → 1 ≤ n → is_member result n ≡ (is_member (outs_by ports.now (number_of port) (port_among (live_at t fdb.now) (eth_of class.now)) verdict) n && not (shut_in queues.now.shut n)) }
+    ensures outs { (n : ℕ) → 1 ≤ n → is_member result n ≡ (is_member (outs_from ports.now (vlan_of_place ports.now origin.set) (number_of origin.port) (known_at sets.now origin.set t (eth_of class.now)) verdict) n && not (shut_in queues.now.shut n)) }
 {
-    queues.not_shut(directed_outs(ports, fdb, port, t, class, verdict))
+    let (Some(set), Verdict::Pass(scope)) = (origin.set, verdict) else {
+        return PortSet::empty();
+    };
+    let known = known_port(&sets[set].fdb, class, t);
+    queues.not_shut(directed_outs(ports, set, scope, origin.port, known))
 }
 
-// The same with shut ports among them.
+// The members of the VLAN at a place to which a frame of this scope goes from a port, by the port at which its destination
+// is known; shut ports are among them.
 fn directed_outs(
     ports: &Ports,
-    fdb: &Fdb,
+    set: usize,
+    scope: Scope,
     port: Port,
-    t: Moment,
-    class: &Class,
-    verdict: Verdict,
+    known: Option<Port>,
 ) -> PortSet
+    requires { set < length (vlans_of ports.now) }
     ensures known { (n : ℕ) → 1 ≤ n → is_member result n ≡ true → has_port ports.now n ≡ true }
-    ensures outs { result ≡ outs_by ports.now (number_of port) (port_among (live_at t fdb.now) (eth_of class.now)) verdict }
+    ensures outs { result ≡ outs_by (vlan_at_place ports.now set) ports.now (number_of port) known (Pass scope) }
 {
-    match verdict {
-        Verdict::Pass(scope) => {
-            let others = ports.others_in(scope, port);
-            directed(others, known_port(fdb, class, t))
-        }
-        Verdict::Drop(_) => PortSet::empty(),
-    }
+    directed(ports.others_in(set, scope, port), known)
 }
 
 /// Of a set of ports the one at which the destination of a frame is known, if it is a member; all of them where it isn't

@@ -15,6 +15,7 @@ use Rattle.frame_class.specs.declared.classes.Class.{Class}
 use Rattle.frame_class.specs.declared.classes.Class.TheVariants.{Runt, Tagged, Other, BadIp, Ip6}
 use Rattle.frame_class.specs.declared.classes.Read.{Read}
 use Rattle.frame_class.specs.ClassOf.{class_of}
+use Rattle.eth_frame.specs.Tags.{inner}
 use Rattle.fcfs_states.specs.States.{Same}
 use Rattle.mix_rules.specs.Next.{IsPass}
 use Rattle.hist_store.specs.Rows.{Row}
@@ -26,12 +27,12 @@ use Rattle.savi_access.specs.Marks.{Mark, Told, Asked, Met, told, moment_of, new
 use Rattle.savi_access.specs.Legal.{AreMarks}
 use Rattle.savi_access.specs.Judged.{judged}
 use Rattle.savi_access.specs.Plans.{rules_of, role_of}
-use Rattle.savi_access.proofs.PlanRules.{own_ports, unspecified_off_link}
+use Rattle.savi_access.proofs.PlanRules.{unspecified_off_link}
 use Rattle.savi_access.proofs.Living.{lives_at}
 use Rattle.savi_access.proofs.States.{off_link}
 use Rattle.savi_access.proofs.FirstCome.{keeps_first}
 use Rattle.checkpoint.specs.Bases.{Base, access_of}
-use Rattle.savi_history.specs.Vlans.{the_vlan}
+use Rattle.savi_history.specs.Vlans.{vlan_of_frame}
 use Rattle.savi_history.specs.Limits.{IsWithinLimits}
 use Rattle.savi_history.specs.Moments.{last_moment, moment_at}
 use Rattle.savi_history.specs.ShutPorts.{is_shut}
@@ -41,6 +42,7 @@ use Rattle.savi_history.specs.Accesses.{IsTold}
 use Rattle.savi_history.specs.CameFirst.{IsLiveAtEnd, IsLostSince, IsFrom, KeepsWhoCameFirst, AllKeepWhoCameFirst}
 use Rattle.savi_history.specs.Events.{Event, Frame, Long, Command, Tick, Drain, End, row_of}
 use Rattle.savi_history.specs.Legal.{MayCome, Stands, IsLegal}
+use Rattle.savi_history.proofs.FrameVlans.{own_of_frame}
 use Rattle.savi_history.proofs.Telling.{AreOctets, is_frame, port_in, early, risen, told_rightly, next_told}
 
 told_joined : (late before : List Mark) → told (late ++ before) ≡ told late ++ told before
@@ -100,22 +102,22 @@ module _ (plan : Plan) (valid : IsValidPlan plan) (base : Base) (within : IsWith
   first_octets (r ∷ late) bytes = first_octets late (All-tail (λ (x : Row). IsBytes x.octets) r (late ++ first) bytes)
 
   -- a frame that passes does so at a port that isn't shut
-  unshut : (shut : Bool) (told : List Mark) (port : Port) (t : ℕ) (class : Class) → IsPass (Some (judged_after plan base shut told port t class).verdict) → IsPass (Some (judged (rules_of plan) (access_of base) the_vlan port t told class).verdict)
-  unshut false told port t class pass = pass
-  unshut true told port t class pass = absurd pass
+  unshut : (shut : Bool) (told : List Mark) (port : Port) (t vlan : ℕ) (class : Class) → IsPass (Some (judged_after plan base shut told port t (Some vlan) class).verdict) → IsPass (Some (judged (rules_of plan) (access_of base) vlan port t told class).verdict)
+  unshut false told port t vlan class pass = pass
+  unshut true told port t vlan class pass = absurd pass
 
   module _ (late : List Row) (legal : IsLegal plan base (late ++ first)) (bytes : AreOctets (late ++ first)) (on : plan.savi ≡ true) where
-    pub kept_since : (p q : Port) (stamp : ℕ) (octets : List ℕ) (eth : Eth) (ip : Ip) (read : Read) → MayCome plan base (late ++ first) (Frame q stamp octets) → class_of octets ≡ Ip6 eth ip read → role_of plan (number_of q) ≢ roles.Trusted
-        → IsLiveAtEnd plan base first ip.src.0 p → ¬ Same q p
-        → IsPass (Some (verdict_of plan base (late ++ first) q stamp octets)) → IsLostSince plan base first late (moment_at base (late ++ first) stamp) ip.src.0 p
-    kept_since p q stamp octets eth ip read may class_is host live apart passed = by_method ((rules_of plan).addresses.method_of the_vlan ip.src.0) refl
+    pub kept_since : (p q : Port) (stamp : ℕ) (octets : List ℕ) (vlan : ℕ) (eth : Eth) (ip : Ip) (read : Read) → MayCome plan base (late ++ first) (Frame q stamp octets) → vlan_of_frame plan (number_of q) octets ≡ Some vlan → class_of (inner octets) ≡ Ip6 eth ip read → role_of plan (number_of q) ≢ roles.Trusted
+        → IsLiveAtEnd plan base first vlan ip.src.0 p → ¬ Same q p
+        → IsPass (Some (verdict_of plan base (late ++ first) q stamp octets)) → IsLostSince plan base first late (moment_at base (late ++ first) stamp) vlan ip.src.0 p
+    kept_since p q stamp octets vlan eth ip read may vlan_is class_is host live apart passed = by_method ((rules_of plan).addresses.method_of vlan ip.src.0) refl
       where
         told_first : IsTold plan base first
         told_first = told_rightly plan valid base within first (first_legal late legal) (first_octets late bytes)
 
-        by_method : (method : Option Method) → (rules_of plan).addresses.method_of the_vlan ip.src.0 ≡ method → IsLostSince plan base first late (moment_at base (late ++ first) stamp) ip.src.0 p
+        by_method : (method : Option Method) → (rules_of plan).addresses.method_of vlan ip.src.0 ≡ method → IsLostSince plan base first late (moment_at base (late ++ first) stamp) vlan ip.src.0 p
         by_method None none =
-            absurd (off_link (rules_of plan) (access_of base) within.access the_vlan p (last_moment base first) (early plan valid base within first (first_legal late legal)) (marks plan base first) told_first.right told_first.last ip.src.0 none ((lives_at (state_at (rules_of plan).addresses (access_of base).addresses (told (marks plan base first)) (last_moment base first) the_vlan ip.src.0) p).1 live))
+            absurd (off_link (rules_of plan) (access_of base) within.access vlan p (last_moment base first) (early plan valid base within first (first_legal late legal)) (marks plan base first) told_first.right told_first.last ip.src.0 none ((lives_at (state_at (rules_of plan).addresses (access_of base).addresses (told (marks plan base first)) (last_moment base first) vlan ip.src.0) p).1 live))
         by_method (Some m) found =
             let r = rules_of plan in
             let start = access_of base in
@@ -126,46 +128,49 @@ module _ (plan : Plan) (valid : IsValidPlan plan) (base : Base) (within : IsWith
             let right : AreMarks (rules_of plan) (access_of base) (more.new ++ marks plan base first) = subst (AreMarks (rules_of plan) (access_of base)) more.is told_all.right in
             let after : newest_moment (access_of base) (more.new ++ marks plan base first) ≤ moment_at base (late ++ first) stamp =
             subst (λ (l : List Mark). newest_moment (access_of base) l ≤ moment_at base (late ++ first) stamp) more.is (omega (arith, told_all.last)) in
-            let passed_so : IsPass (Some (judged (rules_of plan) (access_of base) the_vlan q (moment_at base (late ++ first) stamp) (more.new ++ marks plan base first) (Ip6 eth ip read)).verdict) =
-            subst (λ (l : List Mark). IsPass (Some (judged (rules_of plan) (access_of base) the_vlan q (moment_at base (late ++ first) stamp) l (Ip6 eth ip read)).verdict)) more.is
-            (subst (λ (c : Class). IsPass (Some (judged (rules_of plan) (access_of base) the_vlan q (moment_at base (late ++ first) stamp) (marks plan base (late ++ first)) c).verdict)) class_is
-            (unshut (is_shut plan base (number_of q) (late ++ first)) (marks plan base (late ++ first)) q (moment_at base (late ++ first) stamp) (class_of octets) passed)) in
+            let passed_there : IsPass (Some (judged_after plan base (is_shut plan base (number_of q) (late ++ first)) (marks plan base (late ++ first)) q (moment_at base (late ++ first) stamp) (Some vlan) (class_of (inner octets))).verdict) =
+            subst (λ (o : Option ℕ). IsPass (Some (judged_after plan base (is_shut plan base (number_of q) (late ++ first)) (marks plan base (late ++ first)) q (moment_at base (late ++ first) stamp) o (class_of (inner octets))).verdict)) vlan_is passed in
+            let passed_so : IsPass (Some (judged (rules_of plan) (access_of base) vlan q (moment_at base (late ++ first) stamp) (more.new ++ marks plan base first) (Ip6 eth ip read)).verdict) =
+            subst (λ (l : List Mark). IsPass (Some (judged (rules_of plan) (access_of base) vlan q (moment_at base (late ++ first) stamp) l (Ip6 eth ip read)).verdict)) more.is
+            (subst (λ (c : Class). IsPass (Some (judged (rules_of plan) (access_of base) vlan q (moment_at base (late ++ first) stamp) (marks plan base (late ++ first)) c).verdict)) class_is
+            (unshut (is_shut plan base (number_of q) (late ++ first)) (marks plan base (late ++ first)) q (moment_at base (late ++ first) stamp) vlan (class_of (inner octets)) passed_there)) in
             record {
               method = m;
               on_link = found;
               new = more.new;
               told_so = more.is;
               lost =
-                  keeps_first r start within.access the_vlan q t soon more.new (marks plan base first) right after (own_ports plan (number_of q) may.0.open_pass.known host) on (unspecified_off_link plan valid) host eth ip read m found
+                  keeps_first r start within.access vlan q t soon more.new (marks plan base first) right after (own_of_frame plan valid (number_of q) vlan octets vlan_is may.0.open_pass.known host) on (unspecified_off_link plan valid vlan) host eth ip read m found
                   base.moment (last_moment base first) (turns r start (marks plan base first) (last_moment base first) told_first.right told_first.last)
                   (turn_later (last_moment base first) (last_moment base (late ++ first)) (moment_at base (late ++ first) stamp) (told more.new) (omega arith) more.turn) p live apart passed_so;
             }
 
 module _ (plan : Plan) (valid : IsValidPlan plan) (base : Base) (within : IsWithinLimits plan base) (on : plan.savi ≡ true) where
   -- a packet whose source is read is one of IPv6
-  source_read : (early late : List Row) (stamp a : ℕ) (octets : List ℕ) (p q : Port) → IsLegal plan base (late ++ early) → AreOctets (late ++ early) → MayCome plan base (late ++ early) (Frame q stamp octets) → role_of plan (number_of q) ≢ roles.Trusted
-      → IsLiveAtEnd plan base early a p → ¬ Same q p → IsPass (Some (verdict_of plan base (late ++ early) q stamp octets))
-      → (c : Class) → class_of octets ≡ c → IsFrom a c → IsLostSince plan base early late (moment_at base (late ++ early) stamp) a p
-  source_read early late stamp a octets p q legal bytes may host live apart passed (Ip6 eth ip read) is from =
-      subst (λ (n : ℕ). IsLostSince plan base early late (moment_at base (late ++ early) stamp) n p) from
-      (kept_since plan valid base within early late legal bytes on p q stamp octets eth ip read may is host (subst (λ (n : ℕ). IsLiveAtEnd plan base early n p) (sym from) live) apart passed)
-  source_read early late stamp a octets p q legal bytes may host live apart passed Runt is from = absurd from
-  source_read early late stamp a octets p q legal bytes may host live apart passed (Tagged eth) is from = absurd from
-  source_read early late stamp a octets p q legal bytes may host live apart passed (Other eth) is from = absurd from
-  source_read early late stamp a octets p q legal bytes may host live apart passed (BadIp eth) is from = absurd from
+  source_read : (early late : List Row) (stamp vlan a : ℕ) (octets : List ℕ) (p q : Port) → IsLegal plan base (late ++ early) → AreOctets (late ++ early) → MayCome plan base (late ++ early) (Frame q stamp octets) → vlan_of_frame plan (number_of q) octets ≡ Some vlan → role_of plan (number_of q) ≢ roles.Trusted
+      → IsLiveAtEnd plan base early vlan a p → ¬ Same q p → IsPass (Some (verdict_of plan base (late ++ early) q stamp octets))
+      → (c : Class) → class_of (inner octets) ≡ c → IsFrom a c → IsLostSince plan base early late (moment_at base (late ++ early) stamp) vlan a p
+  source_read early late stamp vlan a octets p q legal bytes may vlan_is host live apart passed (Ip6 eth ip read) is from =
+      subst (λ (n : ℕ). IsLostSince plan base early late (moment_at base (late ++ early) stamp) vlan n p) from
+      (kept_since plan valid base within early late legal bytes on p q stamp octets vlan eth ip read may vlan_is is host (subst (λ (n : ℕ). IsLiveAtEnd plan base early vlan n p) (sym from) live) apart passed)
+  source_read early late stamp vlan a octets p q legal bytes may vlan_is host live apart passed Runt is from = absurd from
+  source_read early late stamp vlan a octets p q legal bytes may vlan_is host live apart passed (Tagged eth) is from = absurd from
+  source_read early late stamp vlan a octets p q legal bytes may vlan_is host live apart passed (Other eth) is from = absurd from
+  source_read early late stamp vlan a octets p q legal bytes may vlan_is host live apart passed (BadIp eth) is from = absurd from
 
   event_keeps : (past : List Row) (event : Event) → IsLegal plan base past → AreOctets past → MayCome plan base past event → KeepsWhoCameFirst plan base past (row_of plan base past event)
-  event_keeps past (Frame q stamp octets) legal bytes may early late a port split live passed =
+  event_keeps past (Frame q stamp octets) legal bytes may early late vlan a port split live passed =
       let same : q ≡ passed.other = ap (port_in q) passed.frame.frame in
-      subst (λ (rows : List Row). IsLostSince plan base early late (moment_at base rows stamp) a port) (sym split)
-      (source_read early late stamp a octets port q (subst (IsLegal plan base) split legal) (subst AreOctets split bytes) (subst (λ (rows : List Row). MayCome plan base rows (Frame q stamp octets)) split may)
+      subst (λ (rows : List Row). IsLostSince plan base early late (moment_at base rows stamp) vlan a port) (sym split)
+      (source_read early late stamp vlan a octets port q (subst (IsLegal plan base) split legal) (subst AreOctets split bytes) (subst (λ (rows : List Row). MayCome plan base rows (Frame q stamp octets)) split may)
+      (subst (λ (n : Port). vlan_of_frame plan (number_of n) octets ≡ Some vlan) (sym same) passed.vlan_is)
       (subst (λ (n : Port). role_of plan (number_of n) ≢ roles.Trusted) (sym same) passed.host) live (subst (λ (n : Port). ¬ Same n port) (sym same) passed.apart)
-      (subst (λ (rows : List Row). IsPass (Some (verdict_of plan base rows q stamp octets))) split passed.passed) (class_of octets) refl passed.source)
-  event_keeps past (Command stamp line) legal bytes may early late a port split live passed = absurd (false≢true (ap is_frame passed.frame.frame))
-  event_keeps past (Long q stamp len) legal bytes may early late a port split live passed = absurd (false≢true (ap is_frame passed.frame.frame))
-  event_keeps past (Tick stamp) legal bytes may early late a port split live passed = absurd (false≢true (ap is_frame passed.frame.frame))
-  event_keeps past (Drain q count) legal bytes may early late a port split live passed = absurd (false≢true (ap is_frame passed.frame.frame))
-  event_keeps past (End who how) legal bytes may early late a port split live passed = absurd (false≢true (ap is_frame passed.frame.frame))
+      (subst (λ (rows : List Row). IsPass (Some (verdict_of plan base rows q stamp octets))) split passed.passed) (class_of (inner octets)) refl passed.source)
+  event_keeps past (Command stamp line) legal bytes may early late vlan a port split live passed = absurd (false≢true (ap is_frame passed.frame.frame))
+  event_keeps past (Long q stamp len) legal bytes may early late vlan a port split live passed = absurd (false≢true (ap is_frame passed.frame.frame))
+  event_keeps past (Tick stamp) legal bytes may early late vlan a port split live passed = absurd (false≢true (ap is_frame passed.frame.frame))
+  event_keeps past (Drain q count) legal bytes may early late vlan a port split live passed = absurd (false≢true (ap is_frame passed.frame.frame))
+  event_keeps past (End who how) legal bytes may early late vlan a port split live passed = absurd (false≢true (ap is_frame passed.frame.frame))
 
   -- each row of a legal history keeps who came first
   pub all_keep : (past : List Row) → IsLegal plan base past → AreOctets past → AllKeepWhoCameFirst plan base past

@@ -81,13 +81,13 @@ probes_none plan base past q act octets waiting is_ended =
     let items = offered_at plan base past act octets q in
     ap (λ (room : ℕ). all_joined room waiting items) (room_ended plan base past q is_ended) ∙ joined_closed waiting items
 
-frame_at : (b : Bool) (r : Row) (waiting : List Item) → (if b then joined_queue 0 waiting (item_of r) else waiting) ≡ waiting
-frame_at true r waiting = joined_closed waiting (item_of r ∷ [])
-frame_at false r waiting = refl
+frame_at : (b : Bool) (item : Item) (waiting : List Item) → (if b then joined_queue 0 waiting item else waiting) ≡ waiting
+frame_at true item waiting = joined_closed waiting (item ∷ [])
+frame_at false item waiting = refl
 
-frame_none : (plan : Plan) (base : Base) (past : List Row) (q : ℕ) (r : Row) (waiting : List Item) → has_ended base (egress_pass plan q) past ≡ true → framed (room_at plan base past q) q r waiting ≡ waiting
-frame_none plan base past q r waiting is_ended =
-    ap (λ (room : ℕ). framed room q r waiting) (room_ended plan base past q is_ended) ∙ frame_at (is_member r.entry.outs q) r waiting
+frame_none : (plan : Plan) (base : Base) (past : List Row) (q : ℕ) (port : Port) (r : Row) (waiting : List Item) → has_ended base (egress_pass plan q) past ≡ true → framed plan (room_at plan base past q) q port r waiting ≡ waiting
+frame_none plan base past q port r waiting is_ended =
+    ap (λ (room : ℕ). framed plan room q port r waiting) (room_ended plan base past q is_ended) ∙ frame_at (is_member r.entry.outs q) (item_of plan q port r) waiting
 
 -- nothing that a frame offers joins where the egress has ended, whatever the history is
 pub nothing_joins_frame : (plan : Plan) (base : Base) (past : List Row) (q : ℕ) (port : Port) (stamp : ℕ) (octets : List ℕ) → has_ended base (egress_pass plan q) past ≡ true
@@ -96,7 +96,7 @@ nothing_joins_frame plan base past q port stamp octets is_ended =
     let r = row_of plan base past (events.Frame port stamp octets) in
     let waiting = queue plan base q past in
     let act = events.frame_act past port stamp octets in
-    frame_none plan base past q r (probed plan base past act octets q waiting) is_ended ∙ probes_none plan base past q act octets waiting is_ended
+    frame_none plan base past q port r (probed plan base past act octets q waiting) is_ended ∙ probes_none plan base past q act octets waiting is_ended
 
 pub nothing_joins_long : (plan : Plan) (base : Base) (past : List Row) (q : ℕ) (port : Port) (stamp len : ℕ) → has_ended base (egress_pass plan q) past ≡ true
     → queue plan base q (row_of plan base past (events.Long port stamp len) ∷ past) ≡ queue plan base q past

@@ -9,6 +9,7 @@ use Rattle.savi_kinds.specs.declared.plan.Role.TheVariants as roles
 use Rattle.savi_kinds.specs.declared.port.Port.{Port}
 use Rattle.savi_kinds.specs.Ports.{number_of}
 use Rattle.savi_kinds.specs.ValidPlan.{IsValidPlan}
+use Rattle.savi_kinds.specs.Vlans.{access_vlan}
 use Rattle.fcfs_states.specs.declared.event.Ev.{Ev}
 use Rattle.fcfs_states.specs.declared.event.Ev.TheVariants.{Fix, Clear}
 use Rattle.mix_rules.specs.declared.state.AddrState.{AddrState}
@@ -28,44 +29,51 @@ use Rattle.cli_lang.specs.declared.kinds.CmdFault.{CmdFault}
 use Rattle.control_replies.specs.declared.refusal.Refusal.{Refusal}
 use Rattle.savi_access.specs.Marks.{Mark, Told, told, event_told, moment_of, newest_moment}
 use Rattle.savi_access.specs.Legal.{AreMarks, HasFront}
-use Rattle.savi_access.specs.Plans.{rules_of, has_port, role_of, method_in}
+use Rattle.savi_access.specs.Plans.{rules_of, has_port, method_in}
 use Rattle.savi_access.proofs.States.{told_past, told_before}
 use Rattle.savi_access.proofs.Keeping.{told_follows}
-use Rattle.savi_access.proofs.PlanRules.{own_ports}
 use Rattle.checkpoint.specs.Bases.{Base, access_of}
+use Rattle.checkpoint.specs.BaseLines.{has_vlan}
 use Rattle.savi_history.specs.Limits.{IsWithinLimits}
-use Rattle.savi_history.specs.Vlans.{the_vlan}
 use Rattle.savi_history.specs.Passes.{is_trusted}
-use Rattle.savi_history.specs.Commands.{rows_told, may_hold, static_refusal, clear_refusal, refusal_of, ordered_unless, commanded}
+use Rattle.savi_history.specs.Commands.{rows_told, may_hold, static_refusal_in, static_refusal, clear_refusal, refusal_of, fixed_in, ordered_unless, commanded}
 
 -- what holds where a static address isn't refused
-pub record IsGranted (plan : Plan) (rows : List Row) (a : ℕ) (port : Port) : Type 0 where
+pub record IsGranted (plan : Plan) (rows : ℕ → List Row) (a : ℕ) (port : Port) : Type 0 where
   pub known : has_port plan (number_of port) ≡ true
-  pub host : is_trusted (role_of plan (number_of port)) ≡ false
-  pub on_link : is_some (method_in plan a) ≡ true
-  pub fits : may_hold plan rows port a ≡ true
+  pub vlan : ℕ
+  pub vlan_is : access_vlan plan (number_of port) ≡ Some vlan
+  pub on_link : is_some (method_in plan vlan a) ≡ true
+  pub fits : may_hold plan (rows vlan) port a ≡ true
 
-granted_by : (known trusted on_link fits : Bool) (a b c d : Refusal)
-    → (if not known then Some a else if trusted then Some b else if not on_link then Some c else if not fits then Some d else None) ≡ None
-    → (known ≡ true) × (trusted ≡ false) × (on_link ≡ true) × (fits ≡ true)
-granted_by true false true true a b c d none = (refl, refl, refl, refl)
-granted_by true false true false a b c d none = absurd cc
-granted_by true false false fits a b c d none = absurd cc
-granted_by true true on_link fits a b c d none = absurd cc
-granted_by false trusted on_link fits a b c d none = absurd cc
+granted_known : (known : Bool) (a : Refusal) (rest : Option Refusal) → (if not known then Some a else rest) ≡ None → (known ≡ true) × (rest ≡ None)
+granted_known true a rest none = (refl, none)
+granted_known false a rest none = absurd cc
 
-pub granted : (plan : Plan) (rows : List Row) (a : ℕ) (port : Port) → static_refusal plan rows a port ≡ None → IsGranted plan rows a port
+granted_in : (on_link fits : Bool) (c d : Refusal) → (if not on_link then Some c else if not fits then Some d else None) ≡ None → (on_link ≡ true) × (fits ≡ true)
+granted_in true true c d none = (refl, refl)
+granted_in true false c d none = absurd cc
+granted_in false fits c d none = absurd cc
+
+granted_by : (plan : Plan) (rows : ℕ → List Row) (a : ℕ) (port : Port) → has_port plan (number_of port) ≡ true → (own : Option ℕ) → access_vlan plan (number_of port) ≡ own → static_refusal_in plan rows a port own ≡ None → IsGranted plan rows a port
+granted_by plan rows a port known None is none = absurd cc
+granted_by plan rows a port known (Some vlan) is none =
+    let both = granted_in (is_some (method_in plan vlan a)) (may_hold plan (rows vlan) port a) _ _ none in
+    record { known = known; vlan = vlan; vlan_is = is; on_link = both.0; fits = both.1 }
+
+pub granted : (plan : Plan) (rows : ℕ → List Row) (a : ℕ) (port : Port) → static_refusal plan rows a port ≡ None → IsGranted plan rows a port
 granted plan rows a port none =
-    let all = granted_by (has_port plan (number_of port)) (is_trusted (role_of plan (number_of port))) (is_some (method_in plan a)) (may_hold plan rows port a) _ _ _ _ none in
-    record { known = all.0; host = all.1; on_link = all.2; fits = all.3 }
+    let parts = granted_known (has_port plan (number_of port)) _ (static_refusal_in plan rows a port (access_vlan plan (number_of port))) none in
+    granted_by plan rows a port parts.0 (access_vlan plan (number_of port)) refl parts.1
 
 -- an address that is cleared has a state
-pub cleared : (rows : List Row) (a : ℕ) → clear_refusal rows a ≡ None → has_state (state_in rows a) ≡ true
-cleared rows a none = by (has_state (state_in rows a)) _ none
+pub cleared : (plan : Plan) (rows : ℕ → List Row) (vlan a : ℕ) → clear_refusal plan rows vlan a ≡ None → has_state (state_in (rows vlan) a) ≡ true
+cleared plan rows vlan a none = by (has_vlan plan vlan) (has_state (state_in (rows vlan) a)) _ _ none
   where
-    by : (b : Bool) (x : Refusal) → (if b then None else Some x) ≡ None → b ≡ true
-    by true x none = refl
-    by false x none = absurd cc
+    by : (known b : Bool) (x y : Refusal) → (if not known then Some x else if b then None else Some y) ≡ None → b ≡ true
+    by true true x y none = refl
+    by true false x y none = absurd cc
+    by false b x y none = absurd cc
 
 pub not_trusted : (role : Role) → is_trusted role ≡ false → role ≢ roles.Trusted
 not_trusted roles.Host is = λ same. absurd cc
@@ -102,31 +110,31 @@ module _ (plan : Plan) (valid : IsValidPlan plan) (base : Base) (within : IsWith
   unchanged : IsOrdered marks
   unchanged = record { legal = right; last = after; front = record { new = []; is = refl; moments = All-nil (λ (m : Mark). moment_of m ≡ t) } }
 
-  marked : (a : ℕ) (event : Ev) → IsSome (method_in plan a) → IsLeaseInRange event → IsOfVlan (rules_of plan).addresses the_vlan (port_of event) → IsFixable plan.per_port (rows_told plan (access_of base) marks t) a event
-      → (port : Port) → IsOrdered (event_told (rules_of plan) (access_of base) the_vlan t marks a event)
-  marked a event on lease of_vlan fix port = record {
-    legal = (told_follows (rules_of plan) (access_of base) within.access the_vlan port t early marks right after a event on lease of_vlan fix, right);
+  marked : (vlan a : ℕ) (event : Ev) → IsSome (method_in plan vlan a) → IsLeaseInRange event → IsOfVlan (rules_of plan).addresses vlan (port_of event) → IsFixable plan.per_port (rows_told plan (access_of base) marks t vlan) a event
+      → (port : Port) → IsOrdered (event_told (rules_of plan) (access_of base) vlan t marks a event)
+  marked vlan a event on lease of_vlan fix port = record {
+    legal = (told_follows (rules_of plan) (access_of base) within.access vlan port t early marks right after a event on lease of_vlan fix, right);
     last = omega arith;
-    front = record { new = Told (record { vlan = the_vlan; address = a; moment = t; event = event; room = _ }) ∷ []; is = refl; moments = All-cons (λ (m : Mark). moment_of m ≡ t) _ [] refl (All-nil (λ (m : Mark). moment_of m ≡ t)) };
+    front = record { new = Told (record { vlan = vlan; address = a; moment = t; event = event; room = _ }) ∷ []; is = refl; moments = All-cons (λ (m : Mark). moment_of m ≡ t) _ [] refl (All-nil (λ (m : Mark). moment_of m ≡ t)) };
   }
 
-  state_there : (a : ℕ) → IsSoundBy (method_in plan a) (state_in (rows_told plan (access_of base) marks t) a)
-  state_there a =
+  state_there : (vlan a : ℕ) → IsSoundBy (method_in plan vlan a) (state_in (rows_told plan (access_of base) marks t vlan) a)
+  state_there vlan a =
       let base_is = within.access.addresses in
       let rules = (rules_of plan).addresses in
-      subst (λ (s : AddrState). IsSoundBy (method_in plan a) s) (sym (states_at rules (access_of base).addresses (base_tables rules (access_of base).addresses base_is) (base_times rules (access_of base).addresses base_is) (told marks) t the_vlan a))
-      (states_kept rules (access_of base).addresses base_is (told marks) t the_vlan a (told_past (rules_of plan) (access_of base) marks right) (told_before (rules_of plan) (access_of base) marks t right after) early).sound
+      subst (λ (s : AddrState). IsSoundBy (method_in plan vlan a) s) (sym (states_at rules (access_of base).addresses (base_tables rules (access_of base).addresses base_is) (base_times rules (access_of base).addresses base_is) (told marks) t vlan a))
+      (states_kept rules (access_of base).addresses base_is (told marks) t vlan a (told_past (rules_of plan) (access_of base) marks right) (told_before (rules_of plan) (access_of base) marks t right after) early).sound
 
   ordered_right : (order : Result Command CmdFault) (refusal : Option Refusal) → refusal_of plan (rows_told plan (access_of base) marks t) order ≡ refusal → IsOrdered (ordered_unless plan (access_of base) t order refusal marks)
   ordered_right order (Some refusal) is = unchanged
   ordered_right (Err fault) None is = unchanged
   ordered_right (Ok (orders.Static address port)) None is =
       let given = granted plan (rows_told plan (access_of base) marks t) address.0 port is in
-      marked address.0 (Fix port) (some_method (method_in plan address.0) given.on_link) tt
-      (own_ports plan (number_of port) given.known (not_trusted (role_of plan (number_of port)) given.host))
-      (fixable plan (rows_told plan (access_of base) marks t) address.0 port given.fits) port
-  ordered_right (Ok (orders.Clear address)) None is =
-      marked address.0 Clear (on_link_by (method_in plan address.0) (state_in (rows_told plan (access_of base) marks t) address.0) (state_there address.0) (cleared (rows_told plan (access_of base) marks t) address.0 is)) tt tt tt some_port
+      subst (λ (own : Option ℕ). IsOrdered (fixed_in plan (access_of base) t own address.0 port marks)) (sym given.vlan_is)
+      (marked given.vlan address.0 (Fix port) (some_method (method_in plan given.vlan address.0) given.on_link) tt given.vlan_is
+      (fixable plan (rows_told plan (access_of base) marks t given.vlan) address.0 port given.fits) port)
+  ordered_right (Ok (orders.Clear vlan address)) None is =
+      marked vlan address.0 Clear (on_link_by (method_in plan vlan address.0) (state_in (rows_told plan (access_of base) marks t vlan) address.0) (state_there vlan address.0) (cleared plan (rows_told plan (access_of base) marks t) vlan address.0 is)) tt tt tt some_port
   ordered_right (Ok (orders.Shut port)) None is = unchanged
   ordered_right (Ok (orders.Reopen port)) None is = unchanged
   ordered_right (Ok orders.ShowBindings) None is = unchanged

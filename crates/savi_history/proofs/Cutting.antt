@@ -37,8 +37,8 @@ module _ (plan : Plan) (base : Base) (past : List Row) (act : Act) (octets : Lis
       (member_is (λ n. is_member out n && is_closed plan base past act octets n) plan.ports (place_of plan q) (place_within plan q has))
 
 -- where a frame doesn't go, it isn't cut
-frame_there : (q : ℕ) (r : Row) → is_member r.entry.outs q ≡ true → frame_to q r ≡ item_of r ∷ []
-frame_there q r goes = ap (λ (b : Bool). if b then item_of r ∷ [] else []) goes
+frame_there : (plan : Plan) (q : ℕ) (port : Port) (r : Row) → is_member r.entry.outs q ≡ true → frame_to plan q port r ≡ item_of plan q port r ∷ []
+frame_there plan q port r goes = ap (λ (b : Bool). if b then item_of plan q port r ∷ [] else []) goes
 
 module _ (plan : Plan) (base : Base) (past : List Row) (port : Port) (stamp : ℕ) (octets : List ℕ) where
   abbrev first : ℕ → List Item
@@ -47,23 +47,23 @@ module _ (plan : Plan) (base : Base) (past : List Row) (port : Port) (stamp : �
   abbrev out : PortSet
   out = outs_of plan base past port stamp octets
 
-  abbrev frame : Item
-  frame = item_of (row_of plan base past (Frame port stamp octets))
+  abbrev frame : ℕ → Item
+  frame q = item_of plan q port (row_of plan base past (Frame port stamp octets))
 
   abbrev left : (q : ℕ) → List Item → Type 0
   left q offered = length (take (room_at plan base past q - length (queue plan base q past)) offered) < length offered
 
-  there : (q : ℕ) → is_member out q ≡ true → first q ++ frame_to q (row_of plan base past (Frame port stamp octets)) ≡ first q ++ frame ∷ []
-  there q goes = ap (λ (l : List Item). first q ++ l) (frame_there q (row_of plan base past (Frame port stamp octets)) goes)
+  there : (q : ℕ) → is_member out q ≡ true → first q ++ frame_to plan q port (row_of plan base past (Frame port stamp octets)) ≡ first q ++ frame q ∷ []
+  there q goes = ap (λ (l : List Item). first q ++ l) (frame_there plan q port (row_of plan base past (Frame port stamp octets)) goes)
 
   pub frame_cut : IsLeftOut plan base past (row_of plan base past (Frame port stamp octets)) (frame_act past port stamp octets)
   frame_cut q has =
       let is = cut_member plan base past (frame_act past port stamp octets) octets out q has in (
         λ cut.
             let both = and_parts _ _ (sym is ∙ cut) in
-            (both.0, subst (left q) (sym (there q both.0)) (closed_left (room_at plan base past q) (queue plan base q past) (first q) frame both.1)),
+            (both.0, subst (left q) (sym (there q both.0)) (closed_left (room_at plan base past q) (queue plan base q past) (first q) (frame q) both.1)),
         λ goes_left.
-            is ∙ and_from _ _ goes_left.0 (left_closed (room_at plan base past q) (queue plan base q past) (first q) frame (subst (left q) (there q goes_left.0) goes_left.1)),
+            is ∙ and_from _ _ goes_left.0 (left_closed (room_at plan base past q) (queue plan base q past) (first q) (frame q) (subst (left q) (there q goes_left.0) goes_left.1)),
       )
 
 row_cut : (plan : Plan) (base : Base) (past : List Row) (event : Event) → IsLeftOut plan base past (row_of plan base past event) (row_of plan base past event).entry.act

@@ -35,9 +35,9 @@ ended_fewer plan base past q r (passes.Ingress p) how items = omega arith
 ended_fewer plan base past q r passes.Control how items = omega arith
 ended_fewer plan base past q r passes.Ticker how items = omega arith
 
-framed_within : (b : Bool) (room most : ℕ) (r : Row) (waiting : List Item) → room ≤ most → length waiting ≤ most → length (if b then joined_queue room waiting (item_of r) else waiting) ≤ most
-framed_within true room most r waiting low before = joined_within room most waiting (item_of r ∷ []) low before
-framed_within false room most r waiting low before = before
+framed_within : (b : Bool) (room most : ℕ) (item : Item) (waiting : List Item) → room ≤ most → length waiting ≤ most → length (if b then joined_queue room waiting item else waiting) ≤ most
+framed_within true room most item waiting low before = joined_within room most waiting (item ∷ []) low before
+framed_within false room most item waiting low before = before
 
 module _ (plan : Plan) (base : Base) (past : List Row) (q : ℕ) where
   probed_within : (act : Act) (octets : List ℕ) (waiting : List Item) → length waiting ≤ plan.depth → length (probed plan base past act octets q waiting) ≤ plan.depth
@@ -46,7 +46,7 @@ module _ (plan : Plan) (base : Base) (past : List Row) (q : ℕ) where
 
   pub after_within : (r : Row) (act : Act) (waiting : List Item) → length waiting ≤ plan.depth → length (waiting_after plan base past q r act waiting) ≤ plan.depth
   after_within r (acts.Frame port stamp at len) waiting before =
-      framed_within (is_member r.entry.outs q) (room_at plan base past q) plan.depth r (probed plan base past (acts.Frame port stamp at len) r.octets q waiting)
+      framed_within (is_member r.entry.outs q) (room_at plan base past q) plan.depth (item_of plan q port r) (probed plan base past (acts.Frame port stamp at len) r.octets q waiting)
       (room_low plan base past q) (probed_within (acts.Frame port stamp at len) r.octets waiting before)
   after_within r (acts.Long port stamp len) waiting before = probed_within (acts.Long port stamp len) r.octets waiting before
   after_within r (acts.Tick stamp) waiting before = probed_within (acts.Tick stamp) r.octets waiting before

@@ -1,9 +1,12 @@
--- Two captures, of which a frame is judged, and the turns of lines beside those of frames, computed.
+-- Two captures, of which a frame is judged, and the turns of lines beside those of frames, computed; and the VLANs of frames
+-- at ports.
 use Rattle.std.proofs.Common.{ℕ, ◌≡◌, List, [], ◌∷◌, refl, lit≤, true, false, Some, None}
 use Rattle.savi_kinds.specs.declared.port.Port.{Port}
 use Rattle.savi_kinds.specs.declared.plan.Plan.{Plan}
 use Rattle.savi_kinds.specs.declared.plan.Role.TheVariants as roles
 use Rattle.savi_kinds.specs.declared.plan.Format.TheVariants as formats
+use Rattle.savi_kinds.specs.declared.plan.Vlan.{Vlan}
+use Rattle.savi_kinds.specs.declared.plan.Vlan.TheVariants.{Access, Trunk}
 use Rattle.savi_kinds.specs.declared.verdict.Verdict.{Verdict}
 use Rattle.savi_kinds.specs.declared.verdict.Verdict.TheVariants as verdicts
 use Rattle.savi_kinds.specs.declared.verdict.Rule.TheVariants as rules
@@ -15,6 +18,8 @@ use Rattle.savi_kinds.specs.Arrivals as arrivals
 use Rattle.v6_chain.specs.Kinds.{kind_of}
 use Rattle.nd_read.specs.Messages.{named}
 use Rattle.nd_read.specs.NdOf.{nd_of, passes as message_passes}
+use Rattle.eth_frame.specs.declared.vlan_tag.Tag.TheVariants as tags
+use Rattle.eth_frame.specs.Tags.{tag_of}
 use Rattle.frame_class.specs.ClassOf.{class_of}
 use Rattle.ra_guard.specs.GuardOf.{guard_of}
 use Rattle.cli_lang.specs.Arrivals as control
@@ -24,6 +29,7 @@ use Rattle.savi_history.specs.Merges.{merged}
 use Rattle.savi_history.specs.Turns.{Arrives, Commands, Ends, turn_at, all_turns}
 use Rattle.savi_history.specs.Replay.{Stops}
 use Rattle.savi_access.specs.Judged.{judged}
+use Rattle.savi_history.specs.Vlans.{vlan_at, octets_at}
 use Rattle.savi_history.specs.Judged.{verdict_of}
 
 abbrev pub port_one : Port
@@ -46,8 +52,8 @@ plan = record {
   life = 300000;
   control = None;
   journal = [];
-  ports = record { number = port_one; role = roles.Host; format = formats.Pcap; input = []; output = [] }
-      ∷ record { number = port_two; role = roles.Trusted; format = formats.Pcap; input = []; output = [] } ∷ [];
+  ports = record { number = port_one; role = roles.Host; format = formats.Pcap; input = []; output = []; vlan = Access 1 }
+      ∷ record { number = port_two; role = roles.Trusted; format = formats.Pcap; input = []; output = []; vlan = Access 1 } ∷ [];
   prefixes = [];
 }
 
@@ -72,7 +78,7 @@ abbrev pub no_failure : Stops
 no_failure = record { ports = λ port. None; control = None }
 
 pub advert_dropped : verdict_of plan empty [] port_one 1000 advert ≡ verdicts.Drop rules.RouterAdvert
-unfolding class_of nd_of named message_passes kind_of guard_of judged
+unfolding tag_of class_of nd_of named message_passes kind_of guard_of judged
 advert_dropped = refl
 
 abbrev line : ℕ → control.Line
@@ -90,3 +96,31 @@ pub control_first : merged turn_at (all_turns (Some (record { arrivals = line 10
     ∷ Ends (passes.Ingress port_two) hows.End
     ∷ []
 control_first = refl
+
+-- a trunk of two VLANs takes frames with the tag of one of them, and no others
+abbrev trunk : Vlan
+trunk = Trunk (record { items = 10 ∷ 20 ∷ [] })
+
+pub trunk_lists : vlan_at trunk (tags.Vid 20) ≡ Some 20
+trunk_lists = refl
+
+pub trunk_lists_not : vlan_at trunk (tags.Vid 30) ≡ None
+trunk_lists_not = refl
+
+pub trunk_wants_tags : vlan_at trunk tags.None ≡ None
+trunk_wants_tags = refl
+
+-- an access port takes frames without a tag, and no others
+pub access_is : vlan_at (Access 10) tags.None ≡ Some 10
+access_is = refl
+
+pub access_wants_no_tag : vlan_at (Access 10) (tags.Vid 10) ≡ None
+access_wants_no_tag = refl
+
+-- behind the two addresses a trunk's frame has the tag of its VLAN, and an access port's has none
+pub tagged_out : octets_at trunk 10 (2 ∷ 0 ∷ 0 ∷ 0 ∷ 0 ∷ 254 ∷ 2 ∷ 0 ∷ 0 ∷ 0 ∷ 0 ∷ 17 ∷ 134 ∷ 221 ∷ 96 ∷ [])
+    ≡ 2 ∷ 0 ∷ 0 ∷ 0 ∷ 0 ∷ 254 ∷ 2 ∷ 0 ∷ 0 ∷ 0 ∷ 0 ∷ 17 ∷ 129 ∷ 0 ∷ 0 ∷ 10 ∷ 134 ∷ 221 ∷ 96 ∷ []
+tagged_out = refl
+
+pub untagged_out : octets_at (Access 10) 10 packet ≡ packet
+untagged_out = refl

@@ -19,6 +19,7 @@ use Rattle.hist_store.specs.JournalTexts.{prefix_text_by, journal_port_fields, p
 use Rattle.savi_history.specs.Journals.{IsAddressText}
 use Rattle.hist_store.proofs.Words.{IsWord, is_word, IsWords, IsLine, IsLines, word_of, word_all, word_append, word_decimal, word_joined, lines_append}
 use Rattle.hist_store.proofs.FieldWords.{word_port}
+use Rattle.hist_store.proofs.VlanLines.{words_port_vlans, words_vlan}
 
 words_pairs : (octets : List ℕ) → IsWords (map hex_pair octets)
 words_pairs [] = tt
@@ -50,7 +51,7 @@ word_format Stream = word_of (codes "stream") refl
 
 lines_ports : (ports : List PortPlan) → IsLines (map journal_port_fields ports)
 lines_ports [] = tt
-lines_ports (p ∷ ports) = ((word_of (codes "port") refl, (word_port p.number, (word_role p.role, (word_format p.format, tt)))), lines_ports ports)
+lines_ports (p ∷ ports) = ((word_of (codes "port") refl, (word_port p.number, (word_role p.role, (word_format p.format, words_port_vlans p.vlan)))), lines_ports ports)
 
 setting_line : (name : List ℕ) (value : ℕ) → is_word name ≡ true → IsLine (name ∷ decimal value ∷ [])
 setting_line name value word = (word_of name word, (word_decimal value, tt))
@@ -72,7 +73,7 @@ module _ (address_text : ℕ → List ℕ) (is : IsAddressText address_text) whe
       let net : IsWord (address_text p.prefix.net.0 ++ codes "/") =
       word_append (address_text p.prefix.net.0) (codes "/") (word_all (address_text p.prefix.net.0) (is.graphic p.prefix.net.0)) (word_of (codes "/") refl) in
       let prefix : IsWord (prefix_text_by address_text p.prefix) = word_append (address_text p.prefix.net.0 ++ codes "/") (decimal p.prefix.len) net (word_decimal p.prefix.len) in
-      ((word_of (codes "prefix") refl, (prefix, (word_method p.method, tt))), lines_prefixes prefixes)
+      ((word_of (codes "prefix") refl, (prefix, (word_method p.method, words_vlan p.vlan))), lines_prefixes prefixes)
 
   pub lines_header : (version : Version) (plan : Plan) → IsLines (header_lines version address_text plan)
   lines_header version plan =

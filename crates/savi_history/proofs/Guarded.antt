@@ -12,6 +12,7 @@ use Rattle.savi_kinds.specs.declared.entry.Act.{Act}
 use Rattle.savi_kinds.specs.declared.entry.Act.TheVariants as acts
 use Rattle.savi_kinds.specs.Ports.{number_of}
 use Rattle.frame_class.specs.declared.classes.Class.{Class}
+use Rattle.eth_frame.specs.Tags.{inner}
 use Rattle.frame_class.specs.ClassOf.{class_of}
 use Rattle.frame_class.proofs.ClassIs.{class_is}
 use Rattle.ra_guard.specs.GuardOf.{guard_of}
@@ -26,7 +27,7 @@ use Rattle.savi_access.specs.Plans.{rules_of}
 use Rattle.checkpoint.specs.Bases.{Base, access_of}
 use Rattle.savi_history.specs.Passes.{role_of, is_trusted}
 use Rattle.savi_history.specs.Moments.{moment_at}
-use Rattle.savi_history.specs.Vlans.{the_vlan}
+use Rattle.savi_history.specs.Vlans.{vlan_of_frame}
 use Rattle.savi_history.specs.ShutPorts.{is_shut}
 use Rattle.savi_history.specs.Marks.{judged_after, marks}
 use Rattle.savi_history.specs.Judged.{long_by}
@@ -35,6 +36,7 @@ use Rattle.savi_history.specs.Summary.{is_pass}
 use Rattle.savi_history.specs.Events.{Event, row_of}
 use Rattle.savi_history.specs.Events as events
 use Rattle.savi_history.specs.Legal.{Stands, IsLegal}
+use Rattle.savi_history.proofs.FrameVlans.{untold_drops}
 
 -- a rule that stops a frame leaves it no pass
 stopped_by : (r : AccessRules) (base : AccessBase) (vlan : ℕ) (port : Port) (t : ℕ) (told : List Mark) (class : Class) (rule : Option Rule) → is_none rule ≡ false → is_pass (Some (judged_by r base vlan port t told class rule).verdict) ≡ false
@@ -86,18 +88,24 @@ long_drop true = refl
 long_drop false = refl
 
 -- nor does a frame pass at a shut port
-unless_shut : (plan : Plan) (base : Base) (shut : Bool) (told : List Mark) (port : Port) (t : ℕ) (class : Class) → is_pass (Some (judged_after plan base false told port t class).verdict) ≡ false
-    → is_pass (Some (judged_after plan base shut told port t class).verdict) ≡ false
-unless_shut plan base false told port t class stopped = stopped
-unless_shut plan base true told port t class stopped = refl
+unless_shut : (plan : Plan) (base : Base) (shut : Bool) (told : List Mark) (port : Port) (t : ℕ) (vlan : Option ℕ) (class : Class) → is_pass (Some (judged_after plan base false told port t vlan class).verdict) ≡ false
+    → is_pass (Some (judged_after plan base shut told port t vlan class).verdict) ≡ false
+unless_shut plan base false told port t vlan class stopped = stopped
+unless_shut plan base true told port t vlan class stopped = refl
+
+-- nor where the guard stops its class, in whatever VLAN, or in none
+stopped_in : (plan : Plan) (base : Base) (told : List Mark) (port : Port) (t : ℕ) (class : Class) → is_none (guard_of (role_of plan (number_of port)) plan.drop_unknown class) ≡ false → (vlan : Option ℕ)
+    → is_pass (Some (judged_after plan base false told port t vlan class).verdict) ≡ false
+stopped_in plan base told port t class some (Some vlan) = stopped-not_pass (rules_of plan) (access_of base) vlan port t told class some
+stopped_in plan base told port t class some None = untold_drops told (guard_of roles.Trusted plan.drop_unknown class)
 
 -- the row of an event keeps them out
 event_stopped : (Has : List ℕ → Type 0) → IsStopped Has → (plan : Plan) (base : Base) (past : List Row) (event : Event) → NotPassed Has plan (row_of plan base past event)
 event_stopped Has stopped plan base past (events.Frame port stamp octets) = λ at_port frame host has.
     let same : port ≡ at_port = ap (port_in port) frame.frame in
     let here : is_trusted (role_of plan (number_of port)) ≡ false = subst (λ (p : Port). is_trusted (role_of plan (number_of p)) ≡ false) (sym same) host in
-    unless_shut plan base (is_shut plan base (number_of port) past) (marks plan base past) port (moment_at base past stamp) (class_of octets)
-    (stopped-not_pass (rules_of plan) (access_of base) the_vlan port (moment_at base past stamp) (marks plan base past) (class_of octets) (stopped octets (role_of plan (number_of port)) plan.drop_unknown has here))
+    unless_shut plan base (is_shut plan base (number_of port) past) (marks plan base past) port (moment_at base past stamp) (vlan_of_frame plan (number_of port) octets) (class_of (inner octets))
+    (stopped_in plan base (marks plan base past) port (moment_at base past stamp) (class_of (inner octets)) (stopped (inner octets) (role_of plan (number_of port)) plan.drop_unknown has here) (vlan_of_frame plan (number_of port) octets))
 event_stopped Has stopped plan base past (events.Command stamp line) = λ at_port frame host has. refl
 event_stopped Has stopped plan base past (events.Long port stamp len) = λ at_port frame host has. long_drop (is_shut plan base (number_of port) past)
 event_stopped Has stopped plan base past (events.Tick stamp) = λ at_port frame host has. refl

@@ -1,5 +1,5 @@
 -- The header of a journal tells the plan but for its names.
-use Rattle.std.proofs.Common.{◌≡◌, ◌==◌, ℕ, ◌*◌, ◌^◌, ◌<◌, ◌≤◌, Bool, false, List, [], ◌∷◌, ◌++◌, map, decimal, codes, None, refl, ap, sym, ◌∙◌, arith, append_assoc, All}
+use Rattle.std.proofs.Common.{◌≡◌, ◌==◌, ℕ, ◌^◌, ◌<◌, ◌≤◌, Bool, false, List, [], ◌∷◌, ◌++◌, map, decimal, codes, None, refl, ap, sym, ◌∙◌, arith, append_assoc, All}
 use Rattle.std.proofs.lemmas.Fmt.{decimal_injective}
 use Rattle.std.proofs.lemmas.List.Elements.{All-head, All-tail}
 use Rattle.savi_kinds.specs.declared.port.Port.{Port}
@@ -9,18 +9,23 @@ use Rattle.savi_kinds.specs.declared.plan.PrefixPlan.{PrefixPlan}
 use Rattle.savi_kinds.specs.declared.plan.Role.{Role}
 use Rattle.savi_kinds.specs.declared.plan.Method.{Method}
 use Rattle.savi_kinds.specs.declared.plan.Format.{Format}
+use Rattle.savi_kinds.specs.declared.plan.Vlan.{Vlan}
 use Rattle.savi_kinds.specs.declared.address.Mac.{Mac}
 use Rattle.savi_kinds.specs.declared.address.Prefix.{Prefix}
 use Rattle.savi_kinds.specs.MacText.{mac_text}
 use Rattle.savi_kinds.specs.Prefixes.{first_of}
-use Rattle.savi_kinds.specs.ValidPlan.{IsValidPlan, IsPlanPrefix, nets_of}
+use Rattle.savi_kinds.specs.ValidPlan.{IsValidPlan, HasPlanVlans, IsPlanPrefix, nets_of}
+use Rattle.savi_kinds.specs.Vlans.{IsVlan}
 use Rattle.hist_store.specs.PortTexts.{port_text}
 use Rattle.savi_kinds.specs.PlanWords.{role_word, method_word, format_word}
 use Rattle.hist_store.specs.declared.version.Version.{Version}
 use Rattle.hist_store.specs.JournalTexts.{prefix_text_by, journal_port_fields, prefix_fields, word_lines, limit_lines, time_lines, begin_line, header_lines}
+use Rattle.hist_store.specs.VlanTexts.{port_vlan_fields, vlan_fields}
 use Rattle.savi_history.specs.Journals.{without_port_names, without_names, IsAddress, IsAddressText}
 use Rattle.hist_store.proofs.Words.{avoids_all, parted}
+use Rattle.hist_store.proofs.HeaderSizes.{seconds_bound}
 use Rattle.hist_store.proofs.OnePort.{first_apart, port_by_text}
+use Rattle.hist_store.proofs.VlanLines.{vlan_once, port_vlans_by}
 use Rattle.savi_history.proofs.OneValue.{mac_by_text, role_by_text, method_by_text, format_by_text, switch_by_text}
 
 abbrev Line : Type 0
@@ -31,23 +36,26 @@ Line = List (List ℕ)
 value_line : {name a b : List ℕ} {ls ms : List Line} → (name ∷ a ∷ []) ∷ ls ≡ (name ∷ b ∷ []) ∷ ms → (a ≡ b) × (ls ≡ ms)
 value_line {name} {a} {b} {ls} {ms} e = let value : a ≡ b = cc in let rest : ls ≡ ms = cc in (value, rest)
 
--- the same of a line of a port
-record IsSameThree (a b c a' b' c' : List ℕ) (ls ms : List Line) : Type 0 where
+-- the same of a line of a port, with its VLANs behind the other fields
+record IsSamePort (a b c a' b' c' : List ℕ) (vlans vlans' : Line) (ls ms : List Line) : Type 0 where
   first : a ≡ a'
   second : b ≡ b'
   third : c ≡ c'
+  vlans_are : vlans ≡ vlans'
   rest : ls ≡ ms
 
-port_line : {name a b c a' b' c' : List ℕ} {ls ms : List Line} → (name ∷ a ∷ b ∷ c ∷ []) ∷ ls ≡ (name ∷ a' ∷ b' ∷ c' ∷ []) ∷ ms → IsSameThree a b c a' b' c' ls ms
-port_line e = record { first = cc; second = cc; third = cc; rest = cc }
+port_line : {name a b c a' b' c' : List ℕ} {vlans vlans' : Line} {ls ms : List Line} → (name ∷ a ∷ b ∷ c ∷ vlans) ∷ ls ≡ (name ∷ a' ∷ b' ∷ c' ∷ vlans') ∷ ms → IsSamePort a b c a' b' c' vlans vlans' ls ms
+port_line e = record { first = cc; second = cc; third = cc; vlans_are = cc; rest = cc }
 
-record IsSameTwo (a b a' b' : List ℕ) (ls ms : List Line) : Type 0 where
+-- and of a line of a prefix
+record IsSamePrefix (a b a' b' : List ℕ) (vlan vlan' : Line) (ls ms : List Line) : Type 0 where
   first : a ≡ a'
   second : b ≡ b'
+  vlan_is : vlan ≡ vlan'
   rest : ls ≡ ms
 
-prefix_line : {name a b a' b' : List ℕ} {ls ms : List Line} → (name ∷ a ∷ b ∷ []) ∷ ls ≡ (name ∷ a' ∷ b' ∷ []) ∷ ms → IsSameTwo a b a' b' ls ms
-prefix_line e = record { first = cc; second = cc; rest = cc }
+prefix_line : {name a b a' b' : List ℕ} {vlan vlan' : Line} {ls ms : List Line} → (name ∷ a ∷ b ∷ vlan) ∷ ls ≡ (name ∷ a' ∷ b' ∷ vlan') ∷ ms → IsSamePrefix a b a' b' vlan vlan' ls ms
+prefix_line e = record { first = cc; second = cc; vlan_is = cc; rest = cc }
 
 field_apart : {s t : List ℕ} {l m : Line} {ls ms : List Line} → (s ∷ l) ∷ ls ≡ (t ∷ m) ∷ ms → s ≡ t
 field_apart e = cc
@@ -57,14 +65,16 @@ second_apart {z} {x} {y} {s} {t} e other = let tails : x ∷ s ≡ y ∷ t = cc 
 
 -- ports
 
-abbrev the_port_plan : Port → Role → Format → PortPlan
-the_port_plan number role format = record { number = number; role = role; format = format; input = []; output = [] }
+abbrev the_port_plan : Port → Role → Format → Vlan → PortPlan
+the_port_plan number role format vlan = record { number = number; role = role; format = format; input = []; output = []; vlan = vlan }
 
-port_plan_same : (p q : PortPlan) → port_text p.number ≡ port_text q.number → role_word p.role ≡ role_word q.role → format_word p.format ≡ format_word q.format → without_port_names p ≡ without_port_names q
-port_plan_same p q number role format =
-    ap (λ (n : Port). the_port_plan n p.role p.format) (port_by_text p.number q.number number)
-    ∙ ap (λ (r : Role). the_port_plan q.number r p.format) (role_by_text p.role q.role role)
-    ∙ ap (λ (f : Format). the_port_plan q.number q.role f) (format_by_text p.format q.format format)
+port_plan_same : (p q : PortPlan) → HasPlanVlans p → HasPlanVlans q → port_text p.number ≡ port_text q.number → role_word p.role ≡ role_word q.role → format_word p.format ≡ format_word q.format → port_vlan_fields p.vlan ≡ port_vlan_fields q.vlan
+    → without_port_names p ≡ without_port_names q
+port_plan_same p q vp vq number role format vlans =
+    ap (λ (n : Port). the_port_plan n p.role p.format p.vlan) (port_by_text p.number q.number number)
+    ∙ ap (λ (r : Role). the_port_plan q.number r p.format p.vlan) (role_by_text p.role q.role role)
+    ∙ ap (λ (f : Format). the_port_plan q.number q.role f p.vlan) (format_by_text p.format q.format format)
+    ∙ ap (λ (v : Vlan). the_port_plan q.number q.role q.format v) (port_vlans_by p.vlan q.vlan vp.numbers vq.numbers (omega (arith, vp.some)) (omega (arith, vq.some)) vlans)
 
 module _ (address_text : ℕ → List ℕ) (is : IsAddressText address_text) where
   -- the lines behind the ports
@@ -75,25 +85,25 @@ module _ (address_text : ℕ → List ℕ) (is : IsAddressText address_text) whe
   no_port q [] es ls e = first_apart (field_apart e) refl
   no_port q (x ∷ xs) es ls e = second_apart (field_apart e) refl
 
-  same_ports : (ps qs : List PortPlan) (xs ys : List PrefixPlan) (es fs : List Line) → map journal_port_fields ps ++ behind xs es ≡ map journal_port_fields qs ++ behind ys fs
+  same_ports : (ps qs : List PortPlan) (xs ys : List PrefixPlan) (es fs : List Line) → All HasPlanVlans ps → All HasPlanVlans qs → map journal_port_fields ps ++ behind xs es ≡ map journal_port_fields qs ++ behind ys fs
       → (map without_port_names ps ≡ map without_port_names qs) × (behind xs es ≡ behind ys fs)
-  same_ports [] [] xs ys es fs e = (refl, e)
-  same_ports [] (q ∷ qs) xs ys es fs e = absurd (no_port q xs es (map journal_port_fields qs ++ behind ys fs) e)
-  same_ports (p ∷ ps) [] xs ys es fs e = absurd (no_port p ys fs (map journal_port_fields ps ++ behind xs es) (sym e))
-  same_ports (p ∷ ps) (q ∷ qs) xs ys es fs e =
+  same_ports [] [] xs ys es fs vp vq e = (refl, e)
+  same_ports [] (q ∷ qs) xs ys es fs vp vq e = absurd (no_port q xs es (map journal_port_fields qs ++ behind ys fs) e)
+  same_ports (p ∷ ps) [] xs ys es fs vp vq e = absurd (no_port p ys fs (map journal_port_fields ps ++ behind xs es) (sym e))
+  same_ports (p ∷ ps) (q ∷ qs) xs ys es fs vp vq e =
       let line = port_line e in
-      let first : without_port_names p ≡ without_port_names q = port_plan_same p q line.first line.second line.third in
-      let more = same_ports ps qs xs ys es fs line.rest in
+      let first : without_port_names p ≡ without_port_names q = port_plan_same p q (All-head HasPlanVlans p ps vp) (All-head HasPlanVlans q qs vq) line.first line.second line.third line.vlans_are in
+      let more = same_ports ps qs xs ys es fs (All-tail HasPlanVlans p ps vp) (All-tail HasPlanVlans q qs vq) line.rest in
       (cc (first, more.0), more.1)
 
   -- prefixes
 
-  abbrev the_prefix_plan : ℕ → ℕ → Method → PrefixPlan
-  the_prefix_plan net len method = record { prefix = record { net = record { 0 = net }; len = len }; method = method }
+  abbrev the_prefix_plan : ℕ → ℕ → Method → ℕ → PrefixPlan
+  the_prefix_plan net len method vlan = record { prefix = record { net = record { 0 = net }; len = len }; method = method; vlan = vlan }
 
-  prefix_same : (x y : PrefixPlan) → IsPlanPrefix x.prefix → IsPlanPrefix y.prefix → IsAddress (first_of x.prefix) → IsAddress (first_of y.prefix)
-      → prefix_text_by address_text x.prefix ≡ prefix_text_by address_text y.prefix → method_word x.method ≡ method_word y.method → x ≡ y
-  prefix_same x y hx hy ax ay text method =
+  prefix_same : (x y : PrefixPlan) → IsPlanPrefix x.prefix → IsPlanPrefix y.prefix → IsAddress (first_of x.prefix) → IsAddress (first_of y.prefix) → IsVlan x.vlan → IsVlan y.vlan
+      → prefix_text_by address_text x.prefix ≡ prefix_text_by address_text y.prefix → method_word x.method ≡ method_word y.method → vlan_fields x.vlan ≡ vlan_fields y.vlan → x ≡ y
+  prefix_same x y hx hy ax ay vx vy text method vlan =
       let net = x.prefix.net.0 in
       let net' = y.prefix.net.0 in
       let moved : address_text net ++ 47 ∷ decimal x.prefix.len ≡ address_text net' ++ 47 ∷ decimal y.prefix.len =
@@ -104,22 +114,26 @@ module _ (address_text : ℕ → List ℕ) (is : IsAddressText address_text) whe
       let low : x.prefix.len ≤ 128 = hx.prefix.long in
       let low' : y.prefix.len ≤ 128 = hy.prefix.long in
       let lens : x.prefix.len ≡ y.prefix.len = decimal_injective x.prefix.len y.prefix.len (omega (arith, low)) (omega (arith, low')) parts.1 in
-      ap (λ (n : ℕ). the_prefix_plan n x.prefix.len x.method) nets ∙ ap (λ (n : ℕ). the_prefix_plan net' n x.method) lens
-      ∙ ap (λ (m : Method). the_prefix_plan net' y.prefix.len m) (method_by_text x.method y.method method)
+      ap (λ (n : ℕ). the_prefix_plan n x.prefix.len x.method x.vlan) nets
+      ∙ ap (λ (n : ℕ). the_prefix_plan net' n x.method x.vlan) lens
+      ∙ ap (λ (m : Method). the_prefix_plan net' y.prefix.len m x.vlan) (method_by_text x.method y.method method)
+      ∙ ap (λ (v : ℕ). the_prefix_plan net' y.prefix.len y.method v) (vlan_once x.vlan y.vlan vx vy vlan)
 
   same_prefixes : (xs ys : List PrefixPlan) (es fs : List Line) → All IsPlanPrefix (nets_of xs) → All IsPlanPrefix (nets_of ys)
       → All (λ net. IsAddress (first_of net)) (nets_of xs) → All (λ net. IsAddress (first_of net)) (nets_of ys)
+      → All (λ (p : PrefixPlan). IsVlan p.vlan) xs → All (λ (p : PrefixPlan). IsVlan p.vlan) ys
       → behind xs es ≡ behind ys fs → (xs ≡ ys) × (es ≡ fs)
-  same_prefixes [] [] es fs hx hy ax ay e = let rest : es ≡ fs = cc in (refl, rest)
-  same_prefixes [] (y ∷ ys) es fs hx hy ax ay e = absurd (first_apart (field_apart e) refl)
-  same_prefixes (x ∷ xs) [] es fs hx hy ax ay e = absurd (first_apart (field_apart e) refl)
-  same_prefixes (x ∷ xs) (y ∷ ys) es fs hx hy ax ay e =
+  same_prefixes [] [] es fs hx hy ax ay vx vy e = let rest : es ≡ fs = cc in (refl, rest)
+  same_prefixes [] (y ∷ ys) es fs hx hy ax ay vx vy e = absurd (first_apart (field_apart e) refl)
+  same_prefixes (x ∷ xs) [] es fs hx hy ax ay vx vy e = absurd (first_apart (field_apart e) refl)
+  same_prefixes (x ∷ xs) (y ∷ ys) es fs hx hy ax ay vx vy e =
       let within = λ (net : Prefix). IsAddress (first_of net) in
+      let in_vlan = λ (p : PrefixPlan). IsVlan p.vlan in
       let line = prefix_line e in
       let first : x ≡ y = prefix_same x y (All-head IsPlanPrefix x.prefix (nets_of xs) hx) (All-head IsPlanPrefix y.prefix (nets_of ys) hy)
-      (All-head within x.prefix (nets_of xs) ax) (All-head within y.prefix (nets_of ys) ay) line.first line.second in
+      (All-head within x.prefix (nets_of xs) ax) (All-head within y.prefix (nets_of ys) ay) (All-head in_vlan x xs vx) (All-head in_vlan y ys vy) line.first line.second line.vlan_is in
       let more = same_prefixes xs ys es fs (All-tail IsPlanPrefix x.prefix (nets_of xs) hx) (All-tail IsPlanPrefix y.prefix (nets_of ys) hy)
-      (All-tail within x.prefix (nets_of xs) ax) (All-tail within y.prefix (nets_of ys) ay) line.rest in
+      (All-tail within x.prefix (nets_of xs) ax) (All-tail within y.prefix (nets_of ys) ay) (All-tail in_vlan x xs vx) (All-tail in_vlan y ys vy) line.rest in
       (cc (first, more.0), more.1)
 
   -- the whole header
@@ -179,9 +193,6 @@ module _ (address_text : ℕ → List ℕ) (is : IsAddressText address_text) whe
 
 number_same : (m n bound : ℕ) → m ≤ bound → n ≤ bound → bound < 2 ^ 64 → decimal m ≡ decimal n → m ≡ n
 number_same m n bound low low' small text = decimal_injective m n (omega (arith, low, low', small)) (omega (arith, low, low', small)) text
-
-pub seconds_bound : (ms seconds : ℕ) → ms ≡ 1000 * seconds → seconds ≤ 86400 → ms ≤ 86400000
-seconds_bound ms seconds is low = omega arith
 
 life_bound : (plan : Plan) → IsValidPlan plan → plan.life ≤ 86400000
 life_bound plan valid = seconds_bound plan.life valid.life.0 valid.life.1 valid.life.2.1
@@ -250,7 +261,7 @@ pub header_by_lines : (address_text : ℕ → List ℕ) → IsAddressText addres
     → header_lines version address_text plan ++ begin_line ∷ es ≡ header_lines version' address_text plan' ++ begin_line ∷ fs → (without_names plan ≡ without_names plan') × (es ≡ fs)
 header_by_lines address_text is version version' plan plan' es fs valid valid' within within' e =
     let same = same_settings address_text is version version' plan plan' es fs e in
-    let ports = same_ports address_text is plan.ports plan'.ports plan.prefixes plan'.prefixes es fs same.rest in
-    let prefixes = same_prefixes address_text is plan.prefixes plan'.prefixes es fs valid.plan_prefixes valid'.plan_prefixes within within' ports.1 in
+    let ports = same_ports address_text is plan.ports plan'.ports plan.prefixes plan'.prefixes es fs valid.port_vlans valid'.port_vlans same.rest in
+    let prefixes = same_prefixes address_text is plan.prefixes plan'.prefixes es fs valid.plan_prefixes valid'.plan_prefixes within within' valid.prefix_vlans valid'.prefix_vlans ports.1 in
     let numbers = same_numbers address_text is plan plan' es fs valid valid' same in
     (same_plan plan plan' (mac_by_text plan.mac plan'.mac same.mac) same.savi same.unknown numbers ports.0 prefixes.0, prefixes.1)

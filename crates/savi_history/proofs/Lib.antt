@@ -3,6 +3,7 @@ pub mod Merging
 pub mod Filtering
 pub mod Replying
 pub mod Ends
+pub mod FrameVlans
 pub mod Guarded
 pub mod Teaching
 pub mod Individuals
@@ -36,3 +37,4 @@ pub mod CameFirst
 pub mod Ticking
 pub mod Commanding
 pub mod Shutting
+pub mod InVlan

@@ -24,9 +24,9 @@ pub joined_behind : (room : ℕ) (waiting first second : List Item) → all_join
 joined_behind room waiting [] second = refl
 joined_behind room waiting (item ∷ first) second = joined_behind room (joined_queue room waiting item) first second
 
-frame_joins : (b : Bool) (room : ℕ) (r : Row) (waiting : List Item) → (if b then joined_queue room waiting (item_of r) else waiting) ≡ all_joined room waiting (if b then item_of r ∷ [] else [])
-frame_joins true room r waiting = refl
-frame_joins false room r waiting = refl
+frame_joins : (b : Bool) (room : ℕ) (item : Item) (waiting : List Item) → (if b then joined_queue room waiting item else waiting) ≡ all_joined room waiting (if b then item ∷ [] else [])
+frame_joins true room item waiting = refl
+frame_joins false room item waiting = refl
 
 drop_some : (b : Bool) (count : ℕ) (waiting : List Item) → (if b then take count waiting else no_items) ++ (if b then drop count waiting else waiting) ≡ waiting
 drop_some true count waiting = take-append-drop count waiting
@@ -56,9 +56,9 @@ module _ (plan : Plan) (base : Base) (past : List Row) (q : ℕ) (r : Row) (wait
   one_entry : (act : Act) → is_failure_at q act ≡ false → taken_by q act waiting ++ waiting_after plan base past q r act waiting ≡ waiting ++ take (room - length waiting) (all_offered plan base past r act q)
   one_entry (acts.Frame port stamp at len) other =
       let first = offered_at plan base past (acts.Frame port stamp at len) r.octets q in
-      frame_joins (is_member r.entry.outs q) room r (all_joined room waiting first)
-      ∙ sym (joined_behind room waiting first (frame_to q r))
-      ∙ all_joined-is room waiting (first ++ frame_to q r)
+      frame_joins (is_member r.entry.outs q) room (item_of plan q port r) (all_joined room waiting first)
+      ∙ sym (joined_behind room waiting first (frame_to plan q port r))
+      ∙ all_joined-is room waiting (first ++ frame_to plan q port r)
   one_entry (acts.Long port stamp len) other = all_joined-is room waiting (offered_at plan base past (acts.Long port stamp len) r.octets q)
   one_entry (acts.Tick stamp) other = all_joined-is room waiting (offered_at plan base past (acts.Tick stamp) r.octets q)
   one_entry (acts.Command stamp at len) other = all_joined-is room waiting (offered_at plan base past (acts.Command stamp at len) r.octets q)

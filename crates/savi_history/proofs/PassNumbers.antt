@@ -14,10 +14,10 @@ use Rattle.savi_history.specs.Passes.{place_among, place_of, has_port}
 abbrev pub number_at : Plan → ℕ → ℕ
 number_at plan k = get_or (numbers_of plan.ports) k 0
 
-rising_tail : (n : ℕ) (ns : List ℕ) → IsStrictlyIncreasing (n ∷ ns) → IsStrictlyIncreasing ns
+pub rising_tail : (n : ℕ) (ns : List ℕ) → IsStrictlyIncreasing (n ∷ ns) → IsStrictlyIncreasing ns
 rising_tail n ns rising k inside = let e : suc k + 1 ≡ suc (k + 1) = omega arith in rw e at (rising (suc k) (omega arith))
 
-first_below : (n : ℕ) (ns : List ℕ) (j : ℕ) → IsStrictlyIncreasing (n ∷ ns) → j < length ns → n < get_or ns j 0
+pub first_below : (n : ℕ) (ns : List ℕ) (j : ℕ) → IsStrictlyIncreasing (n ∷ ns) → j < length ns → n < get_or ns j 0
 first_below n [] j rising inside = absurd (omega arith)
 first_below n (m ∷ ns) zero rising inside = rising 0 (omega arith)
 first_below n (m ∷ ns) (suc j) rising inside =
@@ -39,7 +39,7 @@ place_at_from (n ∷ ns) (suc k) rising inside =
 pub place_at : (plan : Plan) (k : ℕ) → IsStrictlyIncreasing (numbers_of plan.ports) → k < length plan.ports → place_of plan (number_at plan k) ≡ k
 place_at plan k rising inside = let size : length (numbers_of plan.ports) ≡ length plan.ports = length-map plan.ports (λ p. number_of p.number) in place_at_from (numbers_of plan.ports) k rising (omega arith)
 
-or_true_at : (a b : Bool) → b ≡ true → (a || b) ≡ true
+pub or_true_at : (a b : Bool) → b ≡ true → (a || b) ≡ true
 or_true_at true b is = refl
 or_true_at false b is = is
 

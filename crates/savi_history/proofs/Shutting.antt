@@ -1,5 +1,5 @@
 -- A shut port takes no part.
-use Rattle.std.proofs.Common.{◌≡◌, ℕ, ◌≤◌, ◌==◌, ◌&&◌, not, Bool, true, false, if◌then◌else◌, Some, None, Result, Ok, Err, List, [], ◌∷◌, All, map, inl, inr, refl, sym, ap, subst, ◌∙◌}
+use Rattle.std.proofs.Common.{◌≡◌, ℕ, ◌≤◌, ◌==◌, ◌&&◌, not, Bool, true, false, if◌then◌else◌, Option, Some, None, Result, Ok, Err, List, [], ◌∷◌, All, map, inl, inr, refl, sym, ap, subst, ◌∙◌}
 use Rattle.std.specs.List.{filter, list_any}
 use Rattle.std.proofs.lemmas.Bool.{cases_Bool, and_parts, or_cases, eqb-true, false≢true}
 use Rattle.std.proofs.lemmas.List.Elements.{All-head, All-tail}
@@ -8,10 +8,12 @@ use Rattle.savi_kinds.specs.declared.port.Port.{Port}
 use Rattle.savi_kinds.specs.declared.entry.Act.{Act}
 use Rattle.savi_kinds.specs.declared.entry.Act.TheVariants as acts
 use Rattle.savi_kinds.specs.declared.verdict.Rule.TheVariants.{PortDown}
+use Rattle.savi_kinds.specs.declared.verdict.Verdict.{Verdict}
 use Rattle.savi_kinds.specs.declared.verdict.Verdict.TheVariants.{Drop}
 use Rattle.savi_kinds.specs.Ports.{number_of}
 use Rattle.savi_kinds.specs.PortSets.{is_member, set_of}
 use Rattle.savi_kinds.specs.ValidPlan.{numbers_of}
+use Rattle.eth_frame.specs.Tags.{inner}
 use Rattle.frame_class.specs.ClassOf.{class_of}
 use Rattle.cli_lang.specs.declared.kinds.Command.{Command}
 use Rattle.cli_lang.specs.declared.kinds.Command.TheVariants as orders
@@ -23,7 +25,7 @@ use Rattle.savi_access.specs.declared.row.Row.{Row as AddressRow}
 use Rattle.hist_store.specs.Rows.{Row}
 use Rattle.savi_access.specs.Judged.{drops}
 use Rattle.checkpoint.specs.Bases.{Base}
-use Rattle.savi_history.specs.Vlans.{the_vlan}
+use Rattle.savi_history.specs.Vlans.{vlan_of_frame}
 use Rattle.savi_history.specs.Moments.{moment_at}
 use Rattle.savi_history.specs.Passes.{has_port}
 use Rattle.savi_history.specs.Limits.{IsWithinLimits}
@@ -32,27 +34,33 @@ use Rattle.savi_history.specs.ShutPorts.{is_heard_at, shut_by, shut_after, is_sh
 use Rattle.savi_history.specs.Marks.{marks, judged_after}
 use Rattle.savi_history.specs.Judged.{judged_of, judged_long, verdict_of, long_by}
 use Rattle.savi_history.specs.Stations.{known_port}
-use Rattle.savi_history.specs.Outs.{outs_by}
+use Rattle.savi_history.specs.Outs.{outs_by, outs}
 use Rattle.savi_history.specs.Offers.{Offer, offers}
 use Rattle.savi_history.specs.Queues.{probe_item, is_for, is_probed, offered_at}
 use Rattle.savi_history.specs.Events.{outs_of}
-use Rattle.savi_history.proofs.Directing.{member_filter, all_numbers, and-false}
+use Rattle.savi_history.proofs.Directing.{none_in, member_filter, all_numbers, and-false}
 
 pub dropped : (plan : Plan) (base : Base) (past : List Row) (port : Port) (stamp : ℕ) (octets : List ℕ) → is_shut plan base (number_of port) past ≡ true
     → judged_of plan base past port stamp octets ≡ drops PortDown (marks plan base past)
-dropped plan base past port stamp octets shut = ap (λ (b : Bool). judged_after plan base b (marks plan base past) port (moment_at base past stamp) (class_of octets)) shut
+dropped plan base past port stamp octets shut = ap (λ (b : Bool). judged_after plan base b (marks plan base past) port (moment_at base past stamp) (vlan_of_frame plan (number_of port) octets) (class_of (inner octets))) shut
 
 pub long_dropped : (plan : Plan) (base : Base) (past : List Row) (port : Port) → is_shut plan base (number_of port) past ≡ true → judged_long plan base past port ≡ Drop PortDown
 long_dropped plan base past port shut = ap long_by shut
 
-pub no_frames : (plan : Plan) (base : Base) (past : List Row) (port : Port) (stamp : ℕ) (octets : List ℕ) (q : ℕ) → 1 ≤ q → is_shut plan base q past ≡ true
-    → is_member (outs_of plan base past port stamp octets) q ≡ false
-no_frames plan base past port stamp octets q least shut =
-    let set = outs_by plan (number_of port) (known_port the_vlan base past (moment_at base past stamp) octets) (verdict_of plan base past port stamp octets) in
+no_frames_in : (plan : Plan) (base : Base) (past : List Row) (port moment : ℕ) (octets : List ℕ) (verdict : Verdict) (q : ℕ) → 1 ≤ q → is_shut plan base q past ≡ true → (vlan : Option ℕ)
+    → is_member (outs vlan plan base past port moment octets verdict) q ≡ false
+no_frames_in plan base past port moment octets verdict q least shut (Some vlan) =
+    let set = outs_by vlan plan port (known_port vlan plan base past moment octets) verdict in
     member_filter (λ n. is_member set n && not (is_shut plan base n past)) (numbers_of plan.ports) q (all_numbers plan.ports) least
     ∙ ap (λ (b : Bool). is_member (set_of (numbers_of plan.ports)) q && (is_member set q && not b)) shut
     ∙ ap (λ (b : Bool). is_member (set_of (numbers_of plan.ports)) q && b) (and-false (is_member set q))
     ∙ and-false (is_member (set_of (numbers_of plan.ports)) q)
+no_frames_in plan base past port moment octets verdict q least shut None = none_in q
+
+pub no_frames : (plan : Plan) (base : Base) (past : List Row) (port : Port) (stamp : ℕ) (octets : List ℕ) (q : ℕ) → 1 ≤ q → is_shut plan base q past ≡ true
+    → is_member (outs_of plan base past port stamp octets) q ≡ false
+no_frames plan base past port stamp octets q least shut =
+    no_frames_in plan base past (number_of port) (moment_at base past stamp) octets (verdict_of plan base past port stamp octets) q least shut (vlan_of_frame plan (number_of port) octets)
 
 none_left : {X : Type 0} (p : X → Bool) → ((x : X) → p x ≡ false) → (xs : List X) → filter p xs ≡ []
 none_left p none [] = refl
@@ -60,9 +68,9 @@ none_left p none (x ∷ xs) = rw (none x) (none_left p none xs)
 
 pub no_probes : (plan : Plan) (base : Base) (past : List Row) (act : Act) (octets : List ℕ) (q : ℕ) → is_shut plan base q past ≡ true → offered_at plan base past act octets q ≡ []
 no_probes plan base past act octets q shut =
-    ap (λ (some : List Offer). map (probe_item plan) some)
-    (none_left (λ (offer : Offer). is_probed plan base past q offer.probe)
-    (λ offer. ap (λ (b : Bool). is_for plan q offer.probe && not b) shut ∙ and-false (is_for plan q offer.probe))
+    ap (λ (some : List Offer). map (probe_item plan q) some)
+    (none_left (is_probed plan base past q)
+    (λ offer. ap (λ (b : Bool). is_for plan q offer.vlan offer.probe && not b) shut ∙ and-false (is_for plan q offer.vlan offer.probe))
     (offers plan base past act octets))
 
 -- a command that is refused shuts and opens no port
@@ -73,13 +81,13 @@ by_port plan port refusal refused = elim (cases_Bool (has_port plan (number_of p
   | inr unknown ↦ unknown
 ]
 
-pub refused_shuts_none : (plan : Plan) (rows : List AddressRow) (order : Result Command CmdFault) (refusal : Refusal) (number : ℕ) (before : Bool) → refusal_of plan rows order ≡ Some refusal → shut_by plan number order before ≡ before
+pub refused_shuts_none : (plan : Plan) (rows : ℕ → List AddressRow) (order : Result Command CmdFault) (refusal : Refusal) (number : ℕ) (before : Bool) → refusal_of plan rows order ≡ Some refusal → shut_by plan number order before ≡ before
 refused_shuts_none plan rows (Ok (orders.Shut port)) refusal number before refused =
     ap (λ (b : Bool). if b && number_of port == number then true else before) (by_port plan port refusal refused)
 refused_shuts_none plan rows (Ok (orders.Reopen port)) refusal number before refused =
     ap (λ (b : Bool). if b && number_of port == number then false else before) (by_port plan port refusal refused)
 refused_shuts_none plan rows (Ok (orders.Static address port)) refusal number before refused = refl
-refused_shuts_none plan rows (Ok (orders.Clear address)) refusal number before refused = refl
+refused_shuts_none plan rows (Ok (orders.Clear vlan address)) refusal number before refused = refl
 refused_shuts_none plan rows (Ok orders.ShowBindings) refusal number before refused = refl
 refused_shuts_none plan rows (Ok orders.ShowPorts) refusal number before refused = refl
 refused_shuts_none plan rows (Ok orders.ShowCounters) refusal number before refused = refl
@@ -111,7 +119,7 @@ by_order : (plan : Plan) (number : ℕ) (order : Result Command CmdFault) (befor
 by_order plan number (Ok (orders.Shut port)) before was shut = heard plan port number true before was shut
 by_order plan number (Ok (orders.Reopen port)) before was shut = heard plan port number false before was shut
 by_order plan number (Ok (orders.Static address port)) before was shut = was shut
-by_order plan number (Ok (orders.Clear address)) before was shut = was shut
+by_order plan number (Ok (orders.Clear vlan address)) before was shut = was shut
 by_order plan number (Ok orders.ShowBindings) before was shut = was shut
 by_order plan number (Ok orders.ShowPorts) before was shut = was shut
 by_order plan number (Ok orders.ShowCounters) before was shut = was shut

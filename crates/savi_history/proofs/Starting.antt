@@ -18,5 +18,5 @@ empty_within plan valid = record {
   shut = All-nil (λ number. has_port plan number ≡ true);
   access = starts_within plan valid;
   counts = none_counted;
-  elsewhere = λ vlan other. record { stations = refl; rows = refl; requests = refl };
+  elsewhere = record { rows = λ vlan other. refl; requests = λ vlan other. refl; stations = λ vlan other. refl };
 }

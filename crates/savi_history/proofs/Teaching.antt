@@ -7,6 +7,7 @@ use Rattle.savi_kinds.specs.declared.port.Port.{Port}
 use Rattle.savi_kinds.specs.declared.entry.Act.{Act}
 use Rattle.savi_kinds.specs.declared.entry.Act.TheVariants as acts
 use Rattle.eth_frame.specs.declared.header.Eth.{Eth}
+use Rattle.eth_frame.specs.Tags.{inner}
 use Rattle.bridge_fdb.specs.declared.station.Station.{Station}
 use Rattle.savi_kinds.specs.Orders.{is_below, is_above}
 use Rattle.bridge_fdb.specs.Stations.{station_number, mac_number, station_of, station_end, is_live, live_at}
@@ -29,18 +30,18 @@ taught_stays P port moment live None kept more = kept
 taught_stays P port moment live (Some eth) kept more = more eth refl
 
 -- so it does after each entry, where it holds with what a frame that passed tells of
-pub after_stays : (P : List Station → Type 0) (vlan : ℕ) (r : Row) (act : Act) (live : List Station) → P live
-    → ((port : Port) (eth : Eth) → is_pass r.entry.verdict ≡ true → ethernet_of r.octets ≡ Some eth → P (learned (station_of eth.src port r.entry.moment) live))
-    → P (after_entry vlan r act live)
-after_stays P vlan r (acts.Frame port stamp at len) live kept more =
-    cond_both (teaches vlan r) (taught port r.entry.moment (ethernet_of r.octets) live) live P
-    (λ does. taught_stays P port r.entry.moment live (ethernet_of r.octets) kept (λ eth is. more port eth (and_parts _ _ does).0 is))
+pub after_stays : (P : List Station → Type 0) (vlan : ℕ) (plan : Plan) (r : Row) (act : Act) (live : List Station) → P live
+    → ((port : Port) (eth : Eth) → is_pass r.entry.verdict ≡ true → ethernet_of (inner r.octets) ≡ Some eth → P (learned (station_of eth.src port r.entry.moment) live))
+    → P (after_entry vlan plan r act live)
+after_stays P vlan plan r (acts.Frame port stamp at len) live kept more =
+    cond_both (teaches vlan plan port r) (taught port r.entry.moment (ethernet_of (inner r.octets)) live) live P
+    (λ does. taught_stays P port r.entry.moment live (ethernet_of (inner r.octets)) kept (λ eth is. more port eth (and_parts _ _ does).0 is))
     (λ _. kept)
-after_stays P vlan r (acts.Long port stamp len) live kept more = kept
-after_stays P vlan r (acts.Tick stamp) live kept more = kept
-after_stays P vlan r (acts.Command stamp at len) live kept more = kept
-after_stays P vlan r (acts.Drain port count) live kept more = kept
-after_stays P vlan r (acts.End who how) live kept more = kept
+after_stays P vlan plan r (acts.Long port stamp len) live kept more = kept
+after_stays P vlan plan r (acts.Tick stamp) live kept more = kept
+after_stays P vlan plan r (acts.Command stamp at len) live kept more = kept
+after_stays P vlan plan r (acts.Drain port count) live kept more = kept
+after_stays P vlan plan r (acts.End who how) live kept more = kept
 
 -- what holds of each station, and of the one that is learned, holds of each one then
 pub all_learned : (P : Station → Type 0) (s : Station) (xs : List Station) → P s → All P xs → All P (learned s xs)
@@ -85,15 +86,15 @@ last_small plan base (r ∷ past) within legal =
     subst (λ (x : Row). x.entry.moment ≤ 2 ^ 62) (sym legal.0.2) (row_moment plan base past legal.0.0 (last_small plan base past within legal.1)).1
 
 -- the stations of a legal history are what those of its base are
-pub stations_stay : (plan : Plan) (base : Base) (past : List Row) (vlan : ℕ) → IsWithinLimits plan base → IsLegal plan base past → AreStationsAt (last_moment base past) (stations vlan base past)
+pub stations_stay : (plan : Plan) (base : Base) (past : List Row) (vlan : ℕ) → IsWithinLimits plan base → IsLegal plan base past → AreStationsAt (last_moment base past) (stations vlan plan base past)
 stations_stay plan base [] vlan within legal = within.stations vlan
 stations_stay plan base (r ∷ past) vlan within legal =
     let moments = row_moment plan base past legal.0.0 (last_small plan base past within legal.1) in
     let after : last_moment base past ≤ r.entry.moment = subst (λ (x : Row). last_moment base past ≤ x.entry.moment) (sym legal.0.2) moments.0 in
     let small : r.entry.moment ≤ 2 ^ 62 = subst (λ (x : Row). x.entry.moment ≤ 2 ^ 62) (sym legal.0.2) moments.1 in
-    let live = live_at r.entry.moment (stations vlan base past) in
-    let was : AreStationsAt r.entry.moment live = later_stations (last_moment base past) r.entry.moment (stations vlan base past) after (stations_stay plan base past vlan within legal.1) in
-    after_stays (AreStationsAt r.entry.moment) vlan r r.entry.act live was
+    let live = live_at r.entry.moment (stations vlan plan base past) in
+    let was : AreStationsAt r.entry.moment live = later_stations (last_moment base past) r.entry.moment (stations vlan plan base past) after (stations_stay plan base past vlan within legal.1) in
+    after_stays (AreStationsAt r.entry.moment) vlan plan r r.entry.act live was
     (λ port eth passed header. learned_stations r.entry.moment (station_of eth.src port r.entry.moment) live refl small was)
 
 -- no station at all is within the limits

@@ -3,12 +3,15 @@ use Rattle.std.proofs.Common.{◌≡◌, ◌⊎◌, ◌==◌, ℕ, Bool, true, f
 use Rattle.std.proofs.lemmas.List.Elements.{All-nil, All-cons, All-head, All-tail, All-append, All-filter}
 use Rattle.savi_kinds.specs.declared.plan.Plan.{Plan}
 use Rattle.savi_kinds.specs.declared.plan.Method.{Method}
+use Rattle.savi_kinds.specs.declared.plan.Role.TheVariants.{Trusted}
 use Rattle.savi_kinds.specs.declared.port.Port.{Port}
 use Rattle.savi_kinds.specs.declared.verdict.Rule.{Rule}
 use Rattle.savi_kinds.specs.declared.entry.Act.{Act}
 use Rattle.savi_kinds.specs.declared.entry.Act.TheVariants.{Frame, Long, Tick, Command, Drain, End}
 use Rattle.savi_kinds.specs.Ports.{number_of}
+use Rattle.savi_kinds.specs.Vlans.{access_vlan, vlans_of}
 use Rattle.frame_class.specs.declared.classes.Class.{Class}
+use Rattle.eth_frame.specs.Tags.{inner}
 use Rattle.frame_class.specs.ClassOf.{class_of}
 use Rattle.ra_guard.specs.GuardOf.{guard_of}
 use Rattle.fcfs_states.specs.declared.state.Fcfs.{Fcfs}
@@ -34,7 +37,8 @@ use Rattle.savi_access.specs.Plans.{rules_of, role_of}
 use Rattle.savi_access.proofs.Trusting.{without}
 use Rattle.checkpoint.specs.Bases.{Base, access_of}
 use Rattle.savi_history.specs.Moments.{moment_at}
-use Rattle.savi_history.specs.Vlans.{the_vlan}
+use Rattle.savi_history.specs.Vlans.{vlan_of_frame}
+use Rattle.savi_history.specs.Merges.{merge, merged}
 use Rattle.fcfs_states.specs.declared.event.Ev.TheVariants.{Fix, Clear}
 use Rattle.cli_lang.specs.declared.kinds.Command.{Command as Order}
 use Rattle.cli_lang.specs.declared.kinds.Command.TheVariants as orders
@@ -42,10 +46,11 @@ use Rattle.cli_lang.specs.declared.kinds.CmdFault.{CmdFault}
 use Rattle.cli_lang.specs.CommandOf.{command_of}
 use Rattle.control_replies.specs.declared.refusal.Refusal.{Refusal}
 use Rattle.savi_history.specs.ShutPorts.{is_shut}
-use Rattle.savi_history.specs.Commands.{rows_told as table_after, refusal_of, ordered_unless}
+use Rattle.savi_history.specs.Commands.{rows_told as table_after, refusal_of, fixed_in, ordered_unless}
 use Rattle.savi_history.specs.Marks.{judged_after, marked, marks, IsOfOperator}
 use Rattle.savi_history.specs.Judged.{judged_of}
-use Rattle.savi_history.specs.Offers.{offer_of, due_by, in_answer, probes_of, offers}
+use Rattle.savi_history.specs.Offers.{Offer, offer_of, due_in, due_by, in_answer, offers}
+use Rattle.savi_history.proofs.FrameVlans.{untold_marks, untold_probe}
 
 marks_without : (past : List Mark) (rule : Option Rule) → (judged_without past rule).marks ≡ past
 marks_without past None = refl
@@ -110,23 +115,29 @@ module _ (plan : Plan) (base : Base) (off : plan.savi ≡ false) where
   abbrev guard_at : Port → Class → Option Rule
   guard_at port class = guard_of (role_of plan (number_of port)) plan.drop_unknown class
 
-  plainly : (past : List Mark) (port : Port) (t : ℕ) (class : Class) → judged_after plan base false past port t class ≡ judged_without past (guard_at port class)
-  plainly past port t class = without (rules_of plan) (access_of base) the_vlan port t past class off
+  plainly : (past : List Mark) (port : Port) (t vlan : ℕ) (class : Class) → judged_after plan base false past port t (Some vlan) class ≡ judged_without past (guard_at port class)
+  plainly past port t vlan class = without (rules_of plan) (access_of base) vlan port t past class off
 
-  -- no frame tells anything, at a port that is shut or not
-  frame_tells_nothing : (shut : Bool) (past : List Mark) (port : Port) (t : ℕ) (class : Class) → (judged_after plan base shut past port t class).marks ≡ past
-  frame_tells_nothing true past port t class = refl
-  frame_tells_nothing false past port t class = ap (λ (j : Judged). j.marks) (plainly past port t class) ∙ marks_without past (guard_at port class)
+  -- no frame tells anything, at a port that is shut or not, in a VLAN or in none
+  frame_tells_nothing : (shut : Bool) (past : List Mark) (port : Port) (t : ℕ) (vlan : Option ℕ) (class : Class) → (judged_after plan base shut past port t vlan class).marks ≡ past
+  frame_tells_nothing true past port t vlan class = refl
+  frame_tells_nothing false past port t (Some vlan) class = ap (λ (j : Judged). j.marks) (plainly past port t vlan class) ∙ marks_without past (guard_at port class)
+  frame_tells_nothing false past port t None class = untold_marks past (guard_of Trusted plan.drop_unknown class)
 
-  frame_asks_nothing : (shut : Bool) (past : List Mark) (port : Port) (t : ℕ) (class : Class) → (judged_after plan base shut past port t class).probe ≡ None
-  frame_asks_nothing true past port t class = refl
-  frame_asks_nothing false past port t class = ap (λ (j : Judged). j.probe) (plainly past port t class) ∙ probe_without past (guard_at port class)
+  frame_asks_nothing : (shut : Bool) (past : List Mark) (port : Port) (t : ℕ) (vlan : Option ℕ) (class : Class) → (judged_after plan base shut past port t vlan class).probe ≡ None
+  frame_asks_nothing true past port t vlan class = refl
+  frame_asks_nothing false past port t (Some vlan) class = ap (λ (j : Judged). j.probe) (plainly past port t vlan class) ∙ probe_without past (guard_at port class)
+  frame_asks_nothing false past port t None class = untold_probe past (guard_of Trusted plan.drop_unknown class)
+
+  fixed_by_operator : (t a : ℕ) (port : Port) (past : List Mark) → All IsOfOperator past → (vlan : Option ℕ) → All IsOfOperator (fixed_in plan (access_of base) t vlan a port past)
+  fixed_by_operator t a port past all (Some vlan) = All-cons IsOfOperator _ past (inr (port, refl)) all
+  fixed_by_operator t a port past all None = all
 
   ordered_by_operator : (t : ℕ) (order : Result Order CmdFault) (refusal : Option Refusal) (past : List Mark) → All IsOfOperator past → All IsOfOperator (ordered_unless plan (access_of base) t order refusal past)
   ordered_by_operator t order (Some refusal) past all = all
   ordered_by_operator t (Err fault) None past all = all
-  ordered_by_operator t (Ok (orders.Static address port)) None past all = All-cons IsOfOperator _ past (inr (port, refl)) all
-  ordered_by_operator t (Ok (orders.Clear address)) None past all = All-cons IsOfOperator _ past (inl refl) all
+  ordered_by_operator t (Ok (orders.Static address port)) None past all = fixed_by_operator t address.0 port past all (access_vlan plan (number_of port))
+  ordered_by_operator t (Ok (orders.Clear vlan address)) None past all = All-cons IsOfOperator _ past (inl refl) all
   ordered_by_operator t (Ok (orders.Shut port)) None past all = all
   ordered_by_operator t (Ok (orders.Reopen port)) None past all = all
   ordered_by_operator t (Ok orders.ShowBindings) None past all = all
@@ -137,7 +148,7 @@ module _ (plan : Plan) (base : Base) (off : plan.savi ≡ false) where
 
   marked_by_operator : (rows : List Row) (r : Row) (act : Act) (past : List Mark) → All IsOfOperator past → All IsOfOperator (marked plan base rows r act past)
   marked_by_operator rows r (Frame port stamp at len) past all =
-      subst (λ (marks : List Mark). All IsOfOperator marks) (sym (frame_tells_nothing (is_shut plan base (number_of port) rows) past port r.entry.moment (class_of r.octets))) all
+      subst (λ (marks : List Mark). All IsOfOperator marks) (sym (frame_tells_nothing (is_shut plan base (number_of port) rows) past port r.entry.moment (vlan_of_frame plan (number_of port) r.octets) (class_of (inner r.octets)))) all
   marked_by_operator rows r (Long port stamp len) past all = all
   marked_by_operator rows r (Tick stamp) past all = all
   marked_by_operator rows r (Command stamp at len) past all =
@@ -151,32 +162,47 @@ module _ (plan : Plan) (base : Base) (off : plan.savi ≡ false) where
   operators_marks (r ∷ past) = marked_by_operator past r r.entry.act (marks plan base past) (operators_marks past)
 
   -- the guard decides
-  pub judged_plainly : (past : List Row) (port : Port) (stamp : ℕ) (octets : List ℕ) → is_shut plan base (number_of port) past ≡ false → judged_of plan base past port stamp octets ≡ judged_without (marks plan base past) (guard_at port (class_of octets))
-  judged_plainly past port stamp octets unshut =
-      ap (λ (b : Bool). judged_after plan base b (marks plan base past) port (moment_at base past stamp) (class_of octets)) unshut
-      ∙ plainly (marks plan base past) port (moment_at base past stamp) (class_of octets)
+  pub judged_plainly : (past : List Row) (port : Port) (stamp : ℕ) (octets : List ℕ) (vlan : ℕ) → is_shut plan base (number_of port) past ≡ false → vlan_of_frame plan (number_of port) octets ≡ Some vlan
+      → judged_of plan base past port stamp octets ≡ judged_without (marks plan base past) (guard_at port (class_of (inner octets)))
+  judged_plainly past port stamp octets vlan unshut is =
+      ap (λ (b : Bool). judged_after plan base b (marks plan base past) port (moment_at base past stamp) (vlan_of_frame plan (number_of port) octets) (class_of (inner octets))) unshut
+      ∙ ap (λ (o : Option ℕ). judged_after plan base false (marks plan base past) port (moment_at base past stamp) o (class_of (inner octets))) is
+      ∙ plainly (marks plan base past) port (moment_at base past stamp) vlan (class_of (inner octets))
 
-  module _ (bare : base.rows the_vlan ≡ []) where
-    quiet_base : AreQuiet (base.rows the_vlan)
-    quiet_base = subst AreQuiet (sym bare) (All-nil HasNothingToSend)
+  module _ (bare : (vlan : ℕ) → base.rows vlan ≡ []) where
+    quiet_base : (vlan : ℕ) → AreQuiet (base.rows vlan)
+    quiet_base vlan = subst AreQuiet (sym (bare vlan)) (All-nil HasNothingToSend)
+
+    none_due_in : (past : List Row) (moment vlan : ℕ) → due_in plan base past moment vlan ≡ []
+    none_due_in past moment vlan =
+        let rules = (rules_of plan).addresses in
+        rw (no_sends rules.times moment (rows_after rules (access_of base).addresses (told (marks plan base past)) vlan)
+        (quiet_after rules (access_of base).addresses vlan (marks plan base past) (quiet_base vlan) (operators_marks past))) refl
+
+    -- where no VLAN has any, there are none
+    none_merged : (past : List Row) (moment : ℕ) (vlans : List ℕ) → merged (λ (offer : Offer). offer.due) (map (λ vlan. map (offer_of vlan) (due_in plan base past moment vlan)) vlans) ≡ []
+    none_merged past moment [] = refl
+    none_merged past moment (vlan ∷ vlans) =
+        ap (λ (due : List SentProbe). merge (λ (offer : Offer). offer.due) (map (offer_of vlan) due) (merged (λ (offer : Offer). offer.due) (map (λ v. map (offer_of v) (due_in plan base past moment v)) vlans))) (none_due_in past moment vlan)
+        ∙ none_merged past moment vlans
 
     none_due : (past : List Row) (moment : ℕ) → due_by plan base past moment ≡ []
-    none_due past moment =
-        let rules = (rules_of plan).addresses in
-        rw (no_sends rules.times moment (rows_after rules (access_of base).addresses (told (marks plan base past)) the_vlan)
-        (quiet_after rules (access_of base).addresses the_vlan (marks plan base past) quiet_base (operators_marks past))) refl
+    none_due past moment = none_merged past moment (vlans_of plan)
 
-    none_of : (past : List Row) (act : Act) (octets : List ℕ) → probes_of plan base past act octets ≡ []
-    none_of past (Frame port stamp at len) octets =
-        ap (λ (due : List SentProbe). due ++ in_answer (judged_of plan base past port stamp octets).probe) (none_due past (moment_at base past stamp))
-        ∙ ap in_answer (frame_asks_nothing (is_shut plan base (number_of port) past) (marks plan base past) port (moment_at base past stamp) (class_of octets))
-    none_of past (Long port stamp len) octets = none_due past (moment_at base past stamp)
-    none_of past (Tick stamp) octets = none_due past (moment_at base past stamp)
-    none_of past (Command stamp at len) octets = none_due past (moment_at base past stamp)
-    none_of past (Drain port count) octets = refl
-    none_of past (End who how) octets = refl
+    none_answered : (vlan : Option ℕ) → in_answer vlan None ≡ []
+    none_answered (Some vlan) = refl
+    none_answered None = refl
 
     -- no entry calls for probes
     pub no_offers : (past : List Row) (act : Act) (octets : List ℕ) → offers plan base past act octets ≡ []
     unfolding offers
-    no_offers past act octets = ap (λ (all : List SentProbe). map offer_of all) (none_of past act octets)
+    no_offers past (Frame port stamp at len) octets =
+        let vlan : Option ℕ = vlan_of_frame plan (number_of port) octets in
+        ap (λ (due : List Offer). due ++ in_answer vlan (judged_of plan base past port stamp octets).probe) (none_due past (moment_at base past stamp))
+        ∙ ap (λ (probe : Option SentProbe). in_answer vlan probe) (frame_asks_nothing (is_shut plan base (number_of port) past) (marks plan base past) port (moment_at base past stamp) vlan (class_of (inner octets)))
+        ∙ none_answered vlan
+    no_offers past (Long port stamp len) octets = none_due past (moment_at base past stamp)
+    no_offers past (Tick stamp) octets = none_due past (moment_at base past stamp)
+    no_offers past (Command stamp at len) octets = none_due past (moment_at base past stamp)
+    no_offers past (Drain port count) octets = refl
+    no_offers past (End who how) octets = refl

@@ -50,7 +50,7 @@ control_end (r ∷ past) = control_ended_behind r.entry.act (control_end past)
 abbrev pub is_quit_command : Result Command CmdFault → Bool
 is_quit_command (Err fault) = false
 is_quit_command (Ok (orders.Static address port)) = false
-is_quit_command (Ok (orders.Clear address)) = false
+is_quit_command (Ok (orders.Clear vlan address)) = false
 is_quit_command (Ok (orders.Shut port)) = false
 is_quit_command (Ok (orders.Reopen port)) = false
 is_quit_command (Ok orders.ShowBindings) = false

@@ -15,7 +15,7 @@ use Rattle.hist_store.specs.Rows.{Row, held}
 use Rattle.checkpoint.specs.Bases.{Base}
 use Rattle.savi_history.specs.Passes.{pass_of}
 use Rattle.savi_history.specs.Moments.{last_moment, moment_at}
-pub use Rattle.savi_history.specs.Vlans.{the_vlan}
+use Rattle.savi_history.specs.Vlans.{vlan_of_frame}
 pub use Rattle.savi_history.specs.Judged.{judged_of, verdict_of}
 use Rattle.savi_history.specs.Judged.{judged_long}
 use Rattle.savi_history.specs.Outs.{outs}
@@ -114,10 +114,11 @@ plain_row by moment act = record {
   octets = [];
 }
 
--- the ports to which it goes
+-- the ports to which a frame goes
 abbrev pub outs_of : Plan → Base → List Row → Port → ℕ → List ℕ → PortSet
 outs_of plan base past port stamp octets =
-    outs the_vlan plan base past (number_of port) (moment_at base past stamp) octets (verdict_of plan base past port stamp octets)
+    outs (vlan_of_frame plan (number_of port) octets) plan base past (number_of port) (moment_at base past stamp) octets
+    (verdict_of plan base past port stamp octets)
 
 abbrev pub row_of : Plan → Base → List Row → Event → Row
 row_of plan base past (Frame port stamp octets) =

@@ -23,6 +23,7 @@ pub mod Shown
 pub mod ControlInputs
 pub mod ControlOutputs
 pub mod Replay
+pub mod Happenings
 pub mod Adverts
 pub mod Outputs
 pub mod Endings

@@ -1,6 +1,7 @@
 -- What becomes of all that the entries of a history offer to a queue.
 use Rattle.std.specs.Prelude.{◌≡◌, ℕ, ◌-◌, ◌<◌, ◌↔◌, ◌==◌, Bool, true, false, if◌then◌else◌, List, [], ◌∷◌, ◌++◌, length, take, drop}
 use Rattle.savi_kinds.specs.declared.plan.Plan.{Plan}
+use Rattle.savi_kinds.specs.declared.port.Port.{Port}
 use Rattle.savi_kinds.specs.declared.entry.Act.{Act}
 use Rattle.savi_kinds.specs.declared.entry.Act.TheVariants.{Frame, Long, Tick, Command, Drain, End}
 use Rattle.savi_kinds.specs.declared.entry.Who.TheVariants.{Egress}
@@ -13,13 +14,14 @@ use Rattle.checkpoint.specs.Bases.{Base}
 use Rattle.savi_history.specs.Passes.{has_port}
 use Rattle.savi_history.specs.Queues.{Item, item_of, offered_at, room_at, queue, over_ports}
 
--- the frame of an entry, where it goes to q
-abbrev pub frame_to : ℕ → Row → List Item
-frame_to q r = if is_member r.entry.outs q then item_of r ∷ [] else []
+-- the frame of an entry, which came in at this port, where it goes to q
+abbrev pub frame_to : Plan → ℕ → Port → Row → List Item
+frame_to plan q port r = if is_member r.entry.outs q then item_of plan q port r ∷ [] else []
 
 -- all that an entry offers to q: its probes and then its frame; without a stamp it offers nothing
 abbrev pub all_offered : Plan → Base → List Row → Row → Act → ℕ → List Item
-all_offered plan base past r (Frame port stamp at len) q = offered_at plan base past (Frame port stamp at len) r.octets q ++ frame_to q r
+all_offered plan base past r (Frame port stamp at len) q =
+    offered_at plan base past (Frame port stamp at len) r.octets q ++ frame_to plan q port r
 all_offered plan base past r (Long port stamp len) q = offered_at plan base past (Long port stamp len) r.octets q
 all_offered plan base past r (Tick stamp) q = offered_at plan base past (Tick stamp) r.octets q
 all_offered plan base past r (Command stamp at len) q = offered_at plan base past (Command stamp at len) r.octets q

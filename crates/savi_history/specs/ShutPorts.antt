@@ -25,7 +25,7 @@ abbrev pub shut_by : Plan → ℕ → Result Order CmdFault → Bool → Bool
 shut_by plan number (Ok (Shut port)) before = if is_heard_at plan port number then true else before
 shut_by plan number (Ok (Reopen port)) before = if is_heard_at plan port number then false else before
 shut_by plan number (Ok (Static address port)) before = before
-shut_by plan number (Ok (Clear address)) before = before
+shut_by plan number (Ok (Clear vlan address)) before = before
 shut_by plan number (Ok ShowBindings) before = before
 shut_by plan number (Ok ShowPorts) before = before
 shut_by plan number (Ok ShowCounters) before = before

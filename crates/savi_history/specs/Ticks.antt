@@ -10,17 +10,18 @@ use Rattle.savi_access.specs.Marks.{told, open_requests}
 use Rattle.savi_access.specs.Plans.{rules_of}
 use Rattle.checkpoint.specs.Bases.{Base, access_of}
 use Rattle.savi_history.specs.Moments.{last_moment, moment_at}
-use Rattle.savi_history.specs.Vlans.{the_vlan}
 use Rattle.savi_history.specs.ShutPorts.{is_shut}
 use Rattle.savi_history.specs.Marks.{marks}
 use Rattle.savi_history.specs.Judged.{verdict_of}
 use Rattle.savi_history.specs.Stations.{stations}
 use Rattle.savi_history.specs.Events.{Tick, row_of, outs_of}
 
--- some address has another state at this moment than at that of the last entry
+-- some address of some VLAN has another state at this moment than at that of the last entry
 abbrev pub HasChangedBy : Plan → Base → List Row → ℕ → Type 0
 HasChangedBy plan base past moment =
-    HasChanged (rules_of plan).addresses (access_of base).addresses (told (marks plan base past)) (last_moment base past) moment the_vlan
+    (vlan : ℕ)
+    × HasChanged (rules_of plan).addresses (access_of base).addresses (told (marks plan base past)) (last_moment base past)
+    moment vlan
 
 -- The same is known and the same is judged after both pasts, from this moment on: the states of addresses, the open requests
 -- and the live stations of each VLAN, which ports are shut, the verdict on a frame that comes next at any port, and where it
@@ -32,7 +33,7 @@ pub record IsSameFrom (plan : Plan) (base : Base) (moment : ℕ) (past other : L
   pub requests : (t vlan : ℕ) → moment ≤ t
       → open_requests (access_of base) vlan (marks plan base past) t ≡ open_requests (access_of base) vlan (marks plan base other) t
   pub stations : (t vlan : ℕ) → moment ≤ t
-      → live_at t (stations vlan base past) ≡ live_at t (stations vlan base other)
+      → live_at t (stations vlan plan base past) ≡ live_at t (stations vlan plan base other)
   pub shut : (q : ℕ) → is_shut plan base q past ≡ is_shut plan base q other
   pub verdicts : (port : Port) (stamp : ℕ) (octets : List ℕ) → moment ≤ moment_at base other stamp
       → verdict_of plan base past port stamp octets ≡ verdict_of plan base other port stamp octets

@@ -1,6 +1,7 @@
 //! The laws on whole histories. Each function does nothing: its contract is the law.
 
-ghost use Rattle.std.specs.Prelude.{◌≡◌, ◌≢◌, ◌≤◌, ◌++◌, ℕ, Bool, true, false, List, [], length, Some, Result, All};
+ghost use Rattle.std.specs.Prelude.{◌≡◌, ◌≢◌, ◌≤◌, ◌++◌, ℕ, Bool, true, false, List, [], length, Some, None, Result, All};
+ghost use Rattle.eth_frame.specs.Tags.{inner};
 ghost use Rattle.savi_kinds.specs.ValidPlan.{IsValidPlan};
 ghost use Rattle.savi_kinds.specs.declared.entry.Act.{Act};
 ghost use Rattle.savi_kinds.specs.declared.plan.Plan.{Plan};
@@ -13,7 +14,8 @@ ghost use Rattle.savi_history.specs.Events.{Frame, outs_of};
 ghost use Rattle.savi_history.specs.Moments.{last_moment, moment_at};
 ghost use Rattle.savi_access.specs.Rules.{IsAccessBase};
 ghost use Rattle.savi_access.specs.Marks.{base_at};
-ghost use Rattle.savi_history.specs.Vlans.{the_vlan};
+ghost use Rattle.savi_history.specs.Vlans.{vlan_of_frame};
+ghost use Rattle.savi_history.specs.Happenings.{happenings, IsSameInVlan};
 ghost use Rattle.savi_access.specs.Plans.{rules_of};
 ghost use Rattle.savi_kinds.specs.declared.plan.Role.TheVariants.{Trusted};
 ghost use Rattle.eth_frame.specs.declared.header.Eth.{Eth};
@@ -29,7 +31,8 @@ ghost use Rattle.savi_history.specs.Judged.{judged_of, judged_long, verdict_of};
 ghost use Rattle.savi_history.specs.Limits.{IsWithinLimits};
 ghost use Rattle.savi_history.specs.Marks.{marks, IsOfOperator};
 ghost use Rattle.savi_access.specs.Judged.{drops, judged_without};
-ghost use Rattle.savi_kinds.specs.PortSets.{is_member};
+ghost use Rattle.savi_kinds.specs.PortSets.{is_member, no_ports};
+ghost use Rattle.savi_history.specs.Summary.{is_pass};
 ghost use Rattle.savi_kinds.specs.declared.verdict.Rule.TheVariants.{PortDown};
 ghost use Rattle.savi_kinds.specs.declared.verdict.Verdict.TheVariants.{Drop};
 ghost use Rattle.savi_history.specs.ShutPorts.{is_shut, shut_by};
@@ -65,20 +68,22 @@ pub fn packets_pass_where_their_source_is_live()
         → IsLegal plan base past → All (λ r. IsBytes r.octets) past → AllPassedRightly plan base past }
 {}
 
-/// First come, first served, over histories of a switch that validates sources. Where an address is live at a port after the
-/// first entries of a legal history, and a later entry is a frame that passes at another port of a host or a server with
-/// that address as its source, its first port had lost it by one of three causes (`all`). The same of a frame that comes in
-/// next (`next`).
+/// First come, first served, over histories of a switch that validates sources. Where an address is live in a VLAN at a port
+/// after the first entries of a legal history, and a later entry is a frame of that VLAN that passes at another port of a
+/// host or a server with that address as its source, its first port had lost it by one of three causes (`all`). The same of
+/// a frame that comes in next (`next`).
 pub fn histories_keep_who_came_first()
     ensures all { (plan : Plan) (base : Base) (past : List Row) → IsValidPlan plan → IsWithinLimits plan base → plan.savi ≡ true
         → IsLegal plan base past → All (λ r. IsBytes r.octets) past → AllKeepWhoCameFirst plan base past }
-    ensures next { (plan : Plan) (base : Base) (early late : List Row) (p q : Port) (stamp : ℕ) (octets : List ℕ) (eth : Eth) (ip : Ip) (read : Read)
+    ensures next { (plan : Plan) (base : Base) (early late : List Row) (p q : Port) (stamp : ℕ) (octets : List ℕ)
+        (vlan : ℕ) (eth : Eth) (ip : Ip) (read : Read)
         → IsValidPlan plan → IsWithinLimits plan base → plan.savi ≡ true
         → IsLegal plan base (late ++ early) → All (λ r. IsBytes r.octets) (late ++ early)
-        → MayCome plan base (late ++ early) (Frame q stamp octets) → class_of octets ≡ Ip6 eth ip read
-        → role_of plan (number_of q) ≢ Trusted → IsLiveAtEnd plan base early ip.src.0 p → ¬ Same q p
+        → MayCome plan base (late ++ early) (Frame q stamp octets)
+        → vlan_of_frame plan (number_of q) octets ≡ Some vlan → class_of (inner octets) ≡ Ip6 eth ip read
+        → role_of plan (number_of q) ≢ Trusted → IsLiveAtEnd plan base early vlan ip.src.0 p → ¬ Same q p
         → IsPass (Some (verdict_of plan base (late ++ early) q stamp octets))
-        → IsLostSince plan base early late (moment_at base (late ++ early) stamp) ip.src.0 p }
+        → IsLostSince plan base early late (moment_at base (late ++ early) stamp) vlan ip.src.0 p }
 {}
 
 /// The start of a switch with a valid plan is within the limits.
@@ -128,19 +133,25 @@ pub fn ticks_change_nothing_later()
     ensures { (plan : Plan) (base : Base) (past : List Row) (stamp : ℕ) → TickLeaves plan base past stamp }
 {}
 
-/// Where sources aren't validated, no frame tells anything of addresses and the guard decides alone: what is told is the
-/// operator's. No entry calls for probes then, if no address had a state to begin with.
+/// Where sources aren't validated, no frame tells anything of addresses and the guard decides alone on those that have a
+/// VLAN: what is told is the operator's. No entry calls for probes then, if no address had a state to begin with.
 pub fn probes_come_with_validation()
-    ensures offers { (plan : Plan) (base : Base) (past : List Row) (act : Act) (octets : List ℕ) → plan.savi ≡ false → base.rows the_vlan ≡ [] → offers plan base past act octets ≡ [] }
+    ensures offers { (plan : Plan) (base : Base) (past : List Row) (act : Act) (octets : List ℕ)
+        → plan.savi ≡ false → ((vlan : ℕ) → base.rows vlan ≡ []) → offers plan base past act octets ≡ [] }
     ensures marks { (plan : Plan) (base : Base) (past : List Row) → plan.savi ≡ false → All IsOfOperator (marks plan base past) }
-    ensures judged { (plan : Plan) (base : Base) (past : List Row) (port : Port) (stamp : ℕ) (octets : List ℕ) → plan.savi ≡ false → is_shut plan base (number_of port) past ≡ false
-        → judged_of plan base past port stamp octets ≡ judged_without (marks plan base past) (guard_of (role_of plan (number_of port)) plan.drop_unknown (class_of octets)) }
+    ensures judged { (plan : Plan) (base : Base) (past : List Row) (port : Port) (stamp : ℕ) (octets : List ℕ) (vlan : ℕ)
+        → plan.savi ≡ false → is_shut plan base (number_of port) past ≡ false
+        → vlan_of_frame plan (number_of port) octets ≡ Some vlan
+        → judged_of plan base past port stamp octets
+        ≡ judged_without (marks plan base past)
+        (guard_of (role_of plan (number_of port)) plan.drop_unknown (class_of (inner octets))) }
 {}
 
 /// Which ports are shut is by the commands that are answered `ok`: one that is refused shuts and opens none, whichever
 /// addresses have a state (`refused`). Only ports of the plan are shut (`inside`).
 pub fn refused_commands_shut_no_port()
-    ensures refused { (plan : Plan) (rows : List AddressRow) (order : Result Command CmdFault) (refusal : Refusal) (number : ℕ) (before : Bool) → refusal_of plan rows order ≡ Some refusal → shut_by plan number order before ≡ before }
+    ensures refused { (plan : Plan) (rows : ℕ → List AddressRow) (order : Result Command CmdFault) (refusal : Refusal)
+        (number : ℕ) (before : Bool) → refusal_of plan rows order ≡ Some refusal → shut_by plan number order before ≡ before }
     ensures inside { (plan : Plan) (base : Base) (past : List Row) (number : ℕ) → IsWithinLimits plan base → is_shut plan base number past ≡ true → has_port plan number ≡ true }
 {}
 
@@ -153,6 +164,30 @@ pub fn shut_ports_take_no_part()
     ensures frames { (plan : Plan) (base : Base) (past : List Row) (port : Port) (stamp : ℕ) (octets : List ℕ) (q : ℕ) → 1 ≤ q → is_shut plan base q past ≡ true
         → is_member (outs_of plan base past port stamp octets) q ≡ false }
     ensures probes { (plan : Plan) (base : Base) (past : List Row) (act : Act) (octets : List ℕ) (q : ℕ) → is_shut plan base q past ≡ true → offered_at plan base past act octets q ≡ [] }
+{}
+
+/// A frame that has no VLAN at its port (a tag at an access port, at a trunk none or that of a VLAN that it doesn't list) is
+/// dropped there, whichever the port is: it tells nothing and goes nowhere (IEEE 802.1Q section 8.6.2).
+pub fn frames_without_a_vlan_are_dropped()
+    ensures dropped { (plan : Plan) (base : Base) (past : List Row) (port : Port) (stamp : ℕ) (octets : List ℕ)
+        → vlan_of_frame plan (number_of port) octets ≡ None
+        → is_pass (Some (verdict_of plan base past port stamp octets)) ≡ false }
+    ensures told { (plan : Plan) (base : Base) (past : List Row) (port : Port) (stamp : ℕ) (octets : List ℕ)
+        → vlan_of_frame plan (number_of port) octets ≡ None
+        → (judged_of plan base past port stamp octets).marks ≡ marks plan base past }
+    ensures outs { (plan : Plan) (base : Base) (past : List Row) (port : Port) (stamp : ℕ) (octets : List ℕ)
+        → vlan_of_frame plan (number_of port) octets ≡ None
+        → outs_of plan base past port stamp octets ≡ no_ports }
+{}
+
+/// A VLAN is as if it were alone: two legal histories in which the same happens in it (its frames at the same ports and
+/// moments, `static` at its ports and `clear` in it at the same moments, and each `shut` and `open` between them, all in one
+/// order) come to the same there. So do the states of its addresses, its open requests and its stations, from the last
+/// moment on, and the verdicts on its frames and the ports to which they go.
+pub fn a_vlan_follows_from_what_happens_in_it()
+    ensures { (vlan : ℕ) (plan : Plan) (base : Base) (past other : List Row)
+        → IsLegal plan base past → IsLegal plan base other → happenings vlan plan past ≡ happenings vlan plan other
+        → IsSameInVlan vlan plan base past other }
 {}
 
 /// The text of addresses after RFC 5952 gives no two addresses of 128 bits the same text, and there is neither a space, a

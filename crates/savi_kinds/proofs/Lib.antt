@@ -5,6 +5,7 @@ pub mod AddrFound
 pub mod AddrSpelling
 pub mod MacGrammar
 pub mod DecimalGrammar
+pub mod Signs
 pub mod PrefixGrammar
 pub mod AddrWritten
 pub mod Filters
@@ -13,3 +14,5 @@ pub mod Orders
 pub mod PortCounts
 pub mod Lists
 pub mod PortNumbers
+pub mod KeyGrammar
+pub mod VlanSets

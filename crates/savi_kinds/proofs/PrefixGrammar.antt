@@ -1,31 +1,16 @@
 -- The texts of prefixes: an address in front of the first slash, and a length behind it.
-use Rattle.std.proofs.Common.{ℕ, ◌≡◌, ◌≢◌, ◌==◌, ◌+◌, ◌-◌, ◌*◌, ◌^◌, ◌%◌, ◌<◌, ◌≤◌, List, [], ◌∷◌, ◌++◌, Some, None, length, take, drop, get_or, decimal, refl, sym, ap, ap₂, ◌∙◌, subst, arith, inl, inr, append_assoc, length-drop, add-one, take-append-drop, drop-cons, eq-eqb, ne_eqb, lt-ltb, lit≤, length-append}
-use Rattle.std.proofs.lemmas.Bool.{cases_eq}
+use Rattle.std.proofs.Common.{ℕ, ◌≡◌, ◌≢◌, ◌==◌, ◌+◌, ◌-◌, ◌*◌, ◌^◌, ◌%◌, ◌<◌, ◌≤◌, List, [], ◌∷◌, ◌++◌, Some, None, length, take, drop, decimal, refl, sym, ap, ap₂, ◌∙◌, subst, arith, append_assoc, lit≤, length-append}
 use Rattle.std.proofs.lemmas.Option.{none-some}
-use Rattle.std.proofs.lemmas.List.{take_at, drop_at, take_all}
-use Rattle.std.proofs.lemmas.List.Quantifiers.{position-Some}
-use Rattle.std.proofs.lemmas.Bool.{eqb-true}
+use Rattle.std.proofs.lemmas.List.{take_at, drop_at}
 use Rattle.std.proofs.lemmas.Nat.{pow_below}
-use Rattle.std.specs.List.{position, position_or_len}
+use Rattle.std.specs.List.{position}
 use Rattle.savi_kinds.specs.declared.address.Addr.{Addr}
 use Rattle.savi_kinds.specs.declared.address.Prefix.{Prefix}
 use Rattle.savi_kinds.specs.AddrText.{IsAddrText}
 use Rattle.savi_kinds.specs.PrefixText.{IsPrefixText, IsLengthText}
-use Rattle.savi_kinds.proofs.AddrGrammar.{marks, no_mark, one_address}
+use Rattle.savi_kinds.proofs.AddrGrammar.{no_mark, one_address}
 use Rattle.savi_kinds.proofs.DecimalGrammar.{one_length}
-
--- the first slash stands behind the address
-first_slash : (front rest : List ℕ) → marks 47 front ≡ 0 → position_or_len (λ c. c == 47) (front ++ (47 ∷ rest)) ≡ length front
-first_slash [] rest none = refl
-first_slash (c ∷ front) rest none =
-    elim (cases_eq c 47) [
-      | inl slash ↦ let one : 1 + marks 47 front ≡ 0 = rw (eq-eqb c 47 slash) at none in absurd (omega arith)
-      | inr other ↦ let later : 0 + marks 47 front ≡ 0 = rw (ne_eqb c 47 other) at none in rw (ne_eqb c 47 other) (omega (arith, first_slash front rest (omega arith)))
-    ]
-
--- behind the first slash nothing is cut off
-tail_is : (text : List ℕ) (n : ℕ) → take (length text - n) (drop n text) ≡ drop n text
-tail_is text n = take_all (length text - n) (drop n text) (omega (arith, length-drop n text))
+use Rattle.savi_kinds.proofs.Signs.{sign_behind, sides_at, tail_is}
 
 -- a prefix's text has a slash, which stands behind its address
 slash_in : (text : List ℕ) (p : Prefix) (h : IsPrefixText text p) → position (λ c. c == 47) text ≡ Some (length h.address)
@@ -33,9 +18,7 @@ slash_in text p h =
     let rest = 47 ∷ decimal p.len in
     let spelled : text ≡ h.address ++ rest = h.spelled ∙ append_assoc h.address (47 ∷ []) (decimal p.len) in
     let none = no_mark 47 (lit≤ tt, λ e. omega arith) h.address p.net h.net in
-    let at_slash : position_or_len (λ c. c == 47) text ≡ length h.address = ap (position_or_len (λ c. c == 47)) spelled ∙ first_slash h.address (decimal p.len) none in
-    let inside : length h.address < length text = omega (arith, ap length spelled, length-append h.address rest) in
-    rw (at_slash, lt-ltb (length h.address) (length text) inside)
+    ap (position (λ c. c == 47)) spelled ∙ sign_behind 47 h.address (decimal p.len) none
 
 pub no_slash : (text : List ℕ) (p : Prefix) → position (λ c. c == 47) text ≡ None → IsPrefixText text p → ⊥
 no_slash text p none h = none-some (length h.address) (sym none ∙ slash_in text p h)
@@ -57,13 +40,11 @@ size_fits len some = let below : 2 ^ (128 - len) < 2 ^ 128 = pow_below (128 - le
 -- the two parts as a prefix's text
 pub from_parts : (text : List ℕ) (slash : ℕ) (net : Addr) (len : ℕ) → position (λ c. c == 47) text ≡ Some slash → IsAddrText (take slash text) net → IsLengthText (take (length text - (slash + 1)) (drop (slash + 1) text)) len → net.0 % (1 * 2 ^ (128 - len) % 2 ^ 128) ≡ 0 → IsPrefixText text (record { net = net; len = len })
 from_parts text slash net len found address length_text even =
-    let at_slash = position-Some (λ c. c == 47) text slash 0 found in
-    let is_slash : get_or text slash 0 ≡ 47 = eqb-true (get_or text slash 0) 47 at_slash.1 in
-    let back : drop slash text ≡ 47 ∷ decimal len = drop-cons text slash 0 at_slash.0 ∙ ap₂ ◌∷◌ is_slash (ap (λ n. drop n text) (sym (add-one slash)) ∙ sym (tail_is text (slash + 1)) ∙ length_text.0) in
+    let back : drop (slash + 1) text ≡ decimal len = sym (tail_is text (slash + 1)) ∙ length_text.0 in
     record {
       address = take slash text;
       net = address;
-      spelled = sym (take-append-drop slash text) ∙ ap (λ t. take slash text ++ t) back ∙ sym (append_assoc (take slash text) (47 ∷ []) (decimal len));
+      spelled = sides_at 47 text slash found ∙ ap (λ t. take slash text ++ (47 ∷ t)) back ∙ sym (append_assoc (take slash text) (47 ∷ []) (decimal len));
       prefix = record { short = length_text.1; long = length_text.2; net = ap (λ m. net.0 % m) (sym (size_fits len length_text.1)) ∙ even };
     }
 

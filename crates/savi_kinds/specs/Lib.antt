@@ -5,10 +5,13 @@ pub mod Rules
 pub mod Prefixes
 pub mod Macs
 pub mod MacText
+pub mod Vlans
 pub mod ValidPlan
 pub mod PlanWords
 pub mod Arrivals
 pub mod AddrText
 pub mod AddrOf
+pub mod KeyText
+pub mod KeyOf
 pub mod PrefixText
 pub mod Characters

@@ -24,9 +24,23 @@ pub const ENTRIES_MOST: u64 = 1_000_000;
 /// The octets of a frame's header: two MAC addresses and an EtherType (IEEE 802.3 section 3.2). No shorter frame is taken.
 pub const FRAME_OCTETS_LEAST: usize = 14;
 
-/// The octets of the longest frame without its check sequence: a header and 1,500 octets of payload, with 4 more for
-/// a tag (IEEE 802.3).
+/// The octets of the longest frame that is taken, without its check sequence: a header and 1,500 octets of payload, with 4
+/// more for a tag (IEEE 802.3).
 pub const FRAME_OCTETS_MOST: usize = 1_518;
+
+/// The octets of the longest frame that is sent: the longest that is taken, with the 4 of a tag that a trunk adds (IEEE
+/// 802.1Q section 9.3).
+pub const FRAME_OCTETS_OUT_MOST: usize = 1_522;
+
+/// The most VLANs of a plan, over all ports, and so of a trunk.
+pub const VLANS_MOST: usize = 8;
+
+/// The greatest number of a VLAN; the least one is 1. A tag with 0 names no VLAN, and 4,095 is reserved (IEEE 802.1Q table
+/// 9-2).
+pub const VLAN_MOST: u16 = 4_094;
+
+/// The VLAN of a port, a prefix or an address for which none is named (IEEE 802.1Q table 9-2).
+pub const DEFAULT_VLAN: u16 = 1;
 
 /// The most octets of frames and command lines that a history may keep.
 pub const BYTES_MOST: u64 = 1_073_741_824;

@@ -1,6 +1,8 @@
 use crate::address::{Mac, Prefix};
+use crate::limits::VLANS_MOST;
 use crate::port::Port;
 use crate::text::Text;
+use arrayvec::ArrayVec;
 use std::marker::Model;
 
 /// Whom a port connects.
@@ -34,6 +36,15 @@ pub enum Format {
     Stream,
 }
 
+/// The VLANs of a port (IEEE 802.1Q): of an access port one, of a trunk those that it lists.
+#[derive(PartialEq, Eq, Debug, Drop)]
+pub enum Vlan {
+    /// Frames have no tag here, and are of this VLAN.
+    Access(u16),
+    /// Frames have the tag of their VLAN here, which is one of these, in rising order.
+    Trunk(ArrayVec<u16, VLANS_MOST>),
+}
+
 /// A port of a plan.
 #[derive(Drop)]
 pub struct PortPlan {
@@ -42,6 +53,7 @@ pub struct PortPlan {
     pub format: Format,
     pub input: Text,
     pub output: Text,
+    pub vlan: Vlan,
 }
 
 /// A prefix of a plan.
@@ -49,6 +61,8 @@ pub struct PortPlan {
 pub struct PrefixPlan {
     pub prefix: Prefix,
     pub method: Method,
+    /// The VLAN whose addresses these are.
+    pub vlan: u16,
 }
 
 /// The ports of a plan, seen by contracts as a list.

@@ -34,7 +34,7 @@ impl Port {
 }
 
 /// A set of ports: bit n - 1 is set where port n is a member.
-#[derive(Clone, Copy, PartialEq, Eq, Debug)]
+#[derive(Clone, Copy, PartialEq, Eq, Debug, Default)]
 pub struct PortSet(pub u16);
 
 impl PortSet {

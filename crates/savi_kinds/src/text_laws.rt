@@ -6,8 +6,10 @@ ghost use Rattle.savi_kinds.specs.declared.address.Mac.{Mac};
 ghost use Rattle.savi_kinds.specs.declared.address.Prefix.{Prefix};
 ghost use Rattle.savi_kinds.specs.Prefixes.{IsPrefix};
 ghost use Rattle.savi_kinds.specs.AddrText.{IsAddrText, IsAddrChar, IsSpelling, addr_text, groups_of};
+ghost use Rattle.savi_kinds.specs.KeyText.{IsKeyText, key_text, mac_key_text};
 ghost use Rattle.savi_kinds.specs.MacText.{IsMacText, HasSixOctets, mac_text};
 ghost use Rattle.savi_kinds.specs.PrefixText.{IsPrefixText, prefix_text};
+ghost use Rattle.savi_kinds.specs.Vlans.{IsVlan};
 
 /// Law: a text is that of one address at most.
 pub fn a_text_is_of_one_addr()
@@ -30,6 +32,23 @@ pub fn addr_texts_are_plain()
     ensures characters { (a : Addr) → All IsAddrChar (addr_text a) }
     ensures least { (a : Addr) → 2 ≤ length (addr_text a) }
     ensures most { (a : Addr) → length (addr_text a) ≤ 39 }
+{}
+
+/// Law: a text is that of one address in one VLAN at most.
+pub fn a_text_is_of_one_key()
+    ensures vlan { (text : List ℕ) (v w : ℕ) (a b : Addr) → IsKeyText text v a → IsKeyText text w b → v ≡ w }
+    ensures address { (text : List ℕ) (v w : ℕ) (a b : Addr) → IsKeyText text v a → IsKeyText text w b → a ≡ b }
+{}
+
+/// Law: the text that is written of an address in a VLAN is read again as this address in this VLAN.
+pub fn key_texts_are_read_again()
+    ensures { (vlan : ℕ) (a : Addr) → IsVlan vlan → a.0 < 2 ^ 128 → IsKeyText (key_text vlan a) vlan a }
+{}
+
+/// Law: no text is that of two MAC addresses, or of one in two VLANs.
+pub fn mac_keys_have_texts_of_their_own()
+    ensures vlan { (v w : ℕ) (m n : Mac) → IsVlan v → IsVlan w → HasSixOctets m → HasSixOctets n → mac_key_text v m ≡ mac_key_text w n → v ≡ w }
+    ensures mac { (v w : ℕ) (m n : Mac) → IsVlan v → IsVlan w → HasSixOctets m → HasSixOctets n → mac_key_text v m ≡ mac_key_text w n → m ≡ n }
 {}
 
 /// Law: a text is that of one MAC address at most.

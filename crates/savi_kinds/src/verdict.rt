@@ -14,7 +14,8 @@ pub enum Rule {
     ReservedGroup = 3,
     /// The source MAC address has the group bit.
     SourceMac = 4,
-    /// The frame has a VLAN tag (EtherType 0x8100 or 0x88A8).
+    /// The frame has no VLAN at its port (IEEE 802.1Q): a tag at an access port; at a trunk none, or that of a VLAN that the
+    /// trunk doesn't list; or a tag that names no VLAN, or another tag behind its tag.
     Tagged = 5,
     /// The IPv6 header or the chain of its extension headers is at fault (RFC 8200).
     BadIpv6 = 6,

@@ -1,5 +1,5 @@
 -- Two histories after which the same is known: what each event makes of both.
-use Rattle.std.proofs.Common.{◌≡◌, ℕ, ◌≤◌, ◌==◌, ◌&&◌, not, Bool, true, false, if◌then◌else◌, List, [], ◌∷◌, Some, None, refl, sym, ap, ◌∙◌, arith, zero-add, length, ◌+◌}
+use Rattle.std.proofs.Common.{◌≡◌, ℕ, ◌≤◌, ◌&&◌, not, Bool, true, false, if◌then◌else◌, List, [], ◌∷◌, Some, None, refl, sym, ap, ◌∙◌, arith, zero-add, length, ◌+◌, Option}
 use Rattle.std.proofs.lemmas.Bool.{ltb-true, lt-ltb, false≢true}
 use Rattle.std.proofs.lemmas.List.Elements.{filter_agree}
 use Rattle.savi_kinds.specs.declared.plan.Plan.{Plan}
@@ -14,6 +14,7 @@ use Rattle.savi_kinds.specs.Ports.{number_of}
 use Rattle.savi_kinds.specs.PortSets.{no_ports, set_of, is_member}
 use Rattle.savi_kinds.specs.ValidPlan.{numbers_of}
 use Rattle.savi_kinds.proofs.Filters.{filter-wider}
+use Rattle.eth_frame.specs.Tags.{inner}
 use Rattle.frame_class.specs.ClassOf.{class_of}
 use Rattle.cli_lang.specs.CommandOf.{command_of}
 use Rattle.bridge_fdb.specs.declared.station.Station.{Station}
@@ -26,7 +27,7 @@ use Rattle.savi_access.specs.Plans.{rules_of}
 use Rattle.checkpoint.specs.Bases.{Base, access_of}
 use Rattle.savi_history.specs.Moments.{last_moment, moment_at}
 use Rattle.savi_history.specs.Passes.{pass_of}
-use Rattle.savi_history.specs.Vlans.{the_vlan}
+use Rattle.savi_history.specs.Vlans.{is_vlan, vlan_of_frame}
 use Rattle.savi_history.specs.ShutPorts.{is_shut, shut_by}
 use Rattle.savi_history.specs.Commands.{commanded}
 use Rattle.savi_history.specs.Marks.{marks, judged_after}
@@ -42,7 +43,7 @@ use Rattle.savi_laws.specs.Answered.{Answered, answered_of, answered}
 pub record Known (plan : Plan) (base : Base) (past other : List Row) : Type 0 where
   pub tells : marks plan base past ≡ marks plan base other
   pub shut : (q : ℕ) → is_shut plan base q past ≡ is_shut plan base q other
-  pub live : (t vlan : ℕ) → last_moment base past ≤ t → last_moment base other ≤ t → live_at t (stations vlan base past) ≡ live_at t (stations vlan base other)
+  pub live : (t vlan : ℕ) → last_moment base past ≤ t → last_moment base other ≤ t → live_at t (stations vlan plan base past) ≡ live_at t (stations vlan plan base other)
 
 -- and the same kept octets and answers
 pub record Alike (plan : Plan) (base : Base) (past other : List Row) : Type 0 where
@@ -88,9 +89,9 @@ line_answer pass stamp line moment at = record {
   outs = no_ports;
 }
 
-abbrev taught_by : ℕ → Port → List ℕ → Verdict → ℕ → List Station → List Station
-taught_by vlan port octets verdict moment live =
-    if is_pass (Some verdict) && (vlan == the_vlan) then taught port moment (ethernet_of octets) live else live
+abbrev taught_by : ℕ → Option ℕ → Port → List ℕ → Verdict → ℕ → List Station → List Station
+taught_by vlan own port octets verdict moment live =
+    if is_pass (Some verdict) && is_vlan vlan own then taught port moment (ethernet_of (inner octets)) live else live
 
 module _ (plan : Plan) (base : Base) where
   pub alike_start : Alike plan base [] []
@@ -115,7 +116,7 @@ module _ (plan : Plan) (base : Base) where
     known = record {
       tells = alike.known.tells;
       shut = alike.known.shut;
-      live = λ t vlan later other_later. live_left (moment_at base past stamp) t (stations vlan base past) later ∙ alike.known.live t vlan (omega (arith, later)) other_later;
+      live = λ t vlan later other_later. live_left (moment_at base past stamp) t (stations vlan plan base past) later ∙ alike.known.live t vlan (omega (arith, later)) other_later;
     };
     keeps = zero-add (held past) ∙ alike.keeps;
     answers = alike.answers;
@@ -126,7 +127,7 @@ module _ (plan : Plan) (base : Base) where
     known = record {
       tells = alike.known.tells;
       shut = alike.known.shut;
-      live = λ t vlan later other_later. live_left (last_moment base past) t (stations vlan base past) later ∙ alike.known.live t vlan later other_later;
+      live = λ t vlan later other_later. live_left (last_moment base past) t (stations vlan plan base past) later ∙ alike.known.live t vlan later other_later;
     };
     keeps = zero-add (held past) ∙ alike.keeps;
     answers = alike.answers;
@@ -137,7 +138,7 @@ module _ (plan : Plan) (base : Base) where
     known = record {
       tells = alike.known.tells;
       shut = alike.known.shut;
-      live = λ t vlan later other_later. live_left (last_moment base past) t (stations vlan base past) later ∙ alike.known.live t vlan later other_later;
+      live = λ t vlan later other_later. live_left (last_moment base past) t (stations vlan plan base past) later ∙ alike.known.live t vlan later other_later;
     };
     keeps = zero-add (held past) ∙ alike.keeps;
     answers = alike.answers;
@@ -159,32 +160,39 @@ module _ (plan : Plan) (base : Base) where
         (λ q. ap (λ b. is_member set q && not b) (known.shut q)) (numbers_of plan.ports))
 
     module _ (stamp : ℕ) (same : moment_at base past stamp ≡ moment_at base other stamp) where
-      live_same : (vlan : ℕ) → live_at (moment_at base past stamp) (stations vlan base past) ≡ live_at (moment_at base other stamp) (stations vlan base other)
+      live_same : (vlan : ℕ) → live_at (moment_at base past stamp) (stations vlan plan base past) ≡ live_at (moment_at base other stamp) (stations vlan plan base other)
       live_same vlan =
           known.live (moment_at base past stamp) vlan (omega arith) (omega (arith, same))
-          ∙ ap (λ (t : ℕ). live_at t (stations vlan base other)) same
+          ∙ ap (λ (t : ℕ). live_at t (stations vlan plan base other)) same
 
       pub judged_same : (port : Port) (octets : List ℕ) → judged_of plan base past port stamp octets ≡ judged_of plan base other port stamp octets
       judged_same port octets =
-          ap (λ (b : Bool). judged_after plan base b (marks plan base past) port (moment_at base past stamp) (class_of octets)) (known.shut (number_of port))
-          ∙ ap (λ (told : List Mark). judged_after plan base (is_shut plan base (number_of port) other) told port (moment_at base past stamp) (class_of octets)) known.tells
-          ∙ ap (λ (t : ℕ). judged_after plan base (is_shut plan base (number_of port) other) (marks plan base other) port t (class_of octets)) same
+          ap (λ (b : Bool). judged_after plan base b (marks plan base past) port (moment_at base past stamp) (vlan_of_frame plan (number_of port) octets) (class_of (inner octets))) (known.shut (number_of port))
+          ∙ ap (λ (told : List Mark). judged_after plan base (is_shut plan base (number_of port) other) told port (moment_at base past stamp) (vlan_of_frame plan (number_of port) octets) (class_of (inner octets))) known.tells
+          ∙ ap (λ (t : ℕ). judged_after plan base (is_shut plan base (number_of port) other) (marks plan base other) port t (vlan_of_frame plan (number_of port) octets) (class_of (inner octets))) same
 
       pub verdict_same : (port : Port) (octets : List ℕ) → verdict_of plan base past port stamp octets ≡ verdict_of plan base other port stamp octets
       verdict_same port octets = ap (λ (j : Judged). j.verdict) (judged_same port octets)
 
+      directed_same : (own : Option ℕ) (n : ℕ) (octets : List ℕ) (verdict : Verdict) → outs own plan base past n (moment_at base past stamp) octets verdict ≡ outs own plan base other n (moment_at base other stamp) octets verdict
+      directed_same (Some vlan) n octets verdict =
+          let set : PortSet = outs_by vlan plan n (port_among (live_at (moment_at base other stamp) (stations vlan plan base other)) (ethernet_of (inner octets))) verdict in
+          ap (λ (live : List Station). without_shut plan base past (outs_by vlan plan n (port_among live (ethernet_of (inner octets))) verdict)) (live_same vlan)
+          ∙ without_same set
+      directed_same None n octets verdict = refl
+
       pub outs_same : (port : Port) (octets : List ℕ) → outs_of plan base past port stamp octets ≡ outs_of plan base other port stamp octets
       outs_same port octets =
-          let set : PortSet = outs_by plan (number_of port) (port_among (live_at (moment_at base other stamp) (stations the_vlan base other)) (ethernet_of octets)) (verdict_of plan base other port stamp octets) in
-          ap (λ (v : Verdict). outs the_vlan plan base past (number_of port) (moment_at base past stamp) octets v) (verdict_same port octets)
-          ∙ ap (λ (live : List Station). without_shut plan base past (outs_by plan (number_of port) (port_among live (ethernet_of octets)) (verdict_of plan base other port stamp octets))) (live_same the_vlan)
-          ∙ without_same set
+          let own : Option ℕ = vlan_of_frame plan (number_of port) octets in
+          ap (λ (v : Verdict). outs own plan base past (number_of port) (moment_at base past stamp) octets v) (verdict_same port octets)
+          ∙ directed_same own (number_of port) octets (verdict_of plan base other port stamp octets)
 
-      stations_framed : (port : Port) (octets : List ℕ) (vlan : ℕ) → stations vlan base (row_of plan base past (Frame port stamp octets) ∷ past) ≡ stations vlan base (row_of plan base other (Frame port stamp octets) ∷ other)
+      stations_framed : (port : Port) (octets : List ℕ) (vlan : ℕ) → stations vlan plan base (row_of plan base past (Frame port stamp octets) ∷ past) ≡ stations vlan plan base (row_of plan base other (Frame port stamp octets) ∷ other)
       stations_framed port octets vlan =
-          ap (λ (v : Verdict). taught_by vlan port octets v (moment_at base past stamp) (live_at (moment_at base past stamp) (stations vlan base past))) (verdict_same port octets)
-          ∙ ap (λ (live : List Station). taught_by vlan port octets (verdict_of plan base other port stamp octets) (moment_at base past stamp) live) (live_same vlan)
-          ∙ ap (λ (t : ℕ). taught_by vlan port octets (verdict_of plan base other port stamp octets) t (live_at (moment_at base other stamp) (stations vlan base other))) same
+          let own : Option ℕ = vlan_of_frame plan (number_of port) octets in
+          ap (λ (v : Verdict). taught_by vlan own port octets v (moment_at base past stamp) (live_at (moment_at base past stamp) (stations vlan plan base past))) (verdict_same port octets)
+          ∙ ap (λ (live : List Station). taught_by vlan own port octets (verdict_of plan base other port stamp octets) (moment_at base past stamp) live) (live_same vlan)
+          ∙ ap (λ (t : ℕ). taught_by vlan own port octets (verdict_of plan base other port stamp octets) t (live_at (moment_at base other stamp) (stations vlan plan base other))) same
 
     -- the same is known from the later of the two last moments on
     pub same_from : last_moment base other ≤ last_moment base past → IsSameFrom plan base (last_moment base past) past other

@@ -8,13 +8,12 @@ use Rattle.savi_kinds.specs.declared.entry.How.{How}
 use Rattle.savi_kinds.specs.declared.entry.How.TheVariants as hows
 use Rattle.hist_store.specs.Rows.{Row, held}
 use Rattle.checkpoint.specs.Bases.{Base}
-use Rattle.savi_history.specs.Vlans.{the_vlan}
 use Rattle.savi_history.specs.Limits.{IsWithinLimits, has_room}
 use Rattle.savi_history.specs.Passes.{pass_of, pass_count, has_ended}
 use Rattle.savi_history.specs.Endings.{has_pause, has_paused_end, is_paused_reason}
 use Rattle.savi_history.specs.Legal.{IsLegal, Stands, MayCome, MayEnd, IsOpen}
 use Rattle.savi_history.specs.Events.{Event, Frame, Long, Command, Tick, Drain, End, row_of}
-use Rattle.savi_laws.specs.Budgets.{input_count, causes, entries_most, Suffices}
+use Rattle.savi_laws.specs.Budgets.{input_count, standing, causes, entries_most, Suffices}
 use Rattle.savi_laws.proofs.Pauses.{no_pause}
 use Rattle.savi_laws.proofs.FewEnds.{open_below, pass_low}
 use Rattle.savi_laws.proofs.Budget.{entries_few}
@@ -60,21 +59,21 @@ fewer_octets : (h k x : ℕ) → 1518 + (k + h) ≤ x → 1518 + h ≤ x
 fewer_octets h k x low = omega (arith, low)
 
 module _ (plan : Plan) (base : Base) (few_ports : length plan.ports ≤ 16) (within : IsWithinLimits plan base) where
-  pub few_entries : (past : List Row) → IsLegal plan base past → length past ≤ entries_most (causes base past)
-  few_entries past legal = all_of (length past) (open_below base past (pass_count plan)) (entries_most (causes base past)) (entries_few plan base few_ports within past legal)
+  pub few_entries : (past : List Row) → IsLegal plan base past → length past ≤ entries_most (causes plan base past)
+  few_entries past legal = all_of (length past) (open_below base past (pass_count plan)) (entries_most (causes plan base past)) (entries_few plan base few_ports within past legal)
 
-  pub open_has_room : (past : List Row) (who : Who) → IsLegal plan base past → IsOpen plan base past who → Suffices plan (causes base past) (held past) → has_room plan past ≡ true
+  pub open_has_room : (past : List Row) (who : Who) → IsLegal plan base past → IsOpen plan base past who → Suffices plan (causes plan base past) (held past) → has_room plan past ≡ true
   open_has_room past who legal is suffices =
       let some : 1 ≤ open_below base past (pass_count plan) = some_open base past (pass_of plan who) is.running (pass_count plan) (pass_low plan who is.known) in
       let entries : length past + 4130 < plan.entries =
-      room_left (length past) (open_below base past (pass_count plan)) (entries_most (causes base past)) plan.entries (entries_few plan base few_ports within past legal) some suffices.entries in
+      room_left (length past) (open_below base past (pass_count plan)) (entries_most (causes plan base past)) plan.entries (entries_few plan base few_ports within past legal) some suffices.entries in
       both_true (nat_lt (length past + 4130) plan.entries) (nat_le (held past + 1518) plan.bytes)
       (lt-ltb (length past + 4130) plan.entries entries) (le-leb (held past + 1518) plan.bytes (bytes_left (held past) plan.bytes suffices.bytes))
 
   -- what suffices for a history sufficed for its past
-  before : (past : List Row) (r : Row) → input_count past ≤ input_count (r ∷ past) → Suffices plan (causes base (r ∷ past)) (held (r ∷ past)) → Suffices plan (causes base past) (held past)
+  before : (past : List Row) (r : Row) → input_count past ≤ input_count (r ∷ past) → Suffices plan (causes plan base (r ∷ past)) (held (r ∷ past)) → Suffices plan (causes plan base past) (held past)
   before past r fewer suffices = record {
-    entries = fewer_causes (input_count past) (input_count (r ∷ past)) (length (base.rows the_vlan)) plan.entries fewer suffices.entries;
+    entries = fewer_causes (input_count past) (input_count (r ∷ past)) (standing plan base) plan.entries fewer suffices.entries;
     bytes = fewer_octets (held past) (length r.octets) plan.bytes suffices.bytes;
   }
 
@@ -95,7 +94,7 @@ module _ (plan : Plan) (base : Base) (few_ports : length plan.ports ≤ 16) (wit
   ends_well past who hows.Paused room none may = absurd (is_not_paused past who room none may)
 
   abbrev EndsWell : List Row → Type 0
-  EndsWell past = Suffices plan (causes base past) (held past) → has_paused_end past ≡ false
+  EndsWell past = Suffices plan (causes plan base past) (held past) → has_paused_end past ≡ false
 
   well_event : (past : List Row) (event : Event) → IsLegal plan base past → MayCome plan base past event → EndsWell past → EndsWell (row_of plan base past event ∷ past)
   well_event past (Frame port stamp octets) legal may well suffices = well (before past (row_of plan base past (Frame port stamp octets)) (omega arith) suffices)
@@ -104,7 +103,7 @@ module _ (plan : Plan) (base : Base) (few_ports : length plan.ports ≤ 16) (wit
   well_event past (Tick stamp) legal may well suffices = well (before past (row_of plan base past (Tick stamp)) (omega arith) suffices)
   well_event past (Drain port count) legal may well suffices = well (before past (row_of plan base past (Drain port count)) (omega arith) suffices)
   well_event past (End who how) legal may well suffices =
-      let enough : Suffices plan (causes base past) (held past) = before past (row_of plan base past (End who how)) (omega arith) suffices in
+      let enough : Suffices plan (causes plan base past) (held past) = before past (row_of plan base past (End who how)) (omega arith) suffices in
       let none : has_paused_end past ≡ false = well enough in
       or_false (is_paused_reason how) (has_paused_end past) (ends_well past who how (open_has_room past who legal may.0 enough) (no_pause past none) may.1) none
 

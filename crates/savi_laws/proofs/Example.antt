@@ -2,18 +2,25 @@
 use Rattle.std.proofs.Common.{◌≡◌, ◌≢◌, ℕ, zero, suc, ◌<◌, ◌≤◌, ◌^◌, List, [], ◌∷◌, refl, sym, ap, ◌∙◌, lit≤, Bool, true, false, Some, None, arith}
 use Rattle.std.specs.List.Sorted.{IsStrictlyIncreasing}
 use Rattle.std.proofs.lemmas.Bool.{false≢true}
-use Rattle.std.proofs.lemmas.List.Elements.{All-nil}
+use Rattle.std.proofs.lemmas.List.Elements.{All-cons, All-nil}
+use Rattle.savi_kinds.specs.declared.port.Port.{Port}
+use Rattle.savi_kinds.specs.declared.plan.Role.{Role}
+use Rattle.savi_kinds.specs.declared.plan.Format.{Format}
 use Rattle.savi_kinds.specs.declared.plan.Plan.{Plan}
+use Rattle.savi_kinds.specs.declared.plan.PrefixPlan.{PrefixPlan}
 use Rattle.savi_kinds.specs.declared.plan.Role.TheVariants as roles
 use Rattle.savi_kinds.specs.declared.plan.Format.TheVariants as formats
+use Rattle.savi_kinds.specs.declared.plan.Vlan.TheVariants.{Access}
 use Rattle.savi_kinds.specs.declared.verdict.Verdict.{Verdict}
 use Rattle.savi_kinds.specs.declared.verdict.Verdict.TheVariants as verdicts
 use Rattle.savi_kinds.specs.declared.verdict.Rule.TheVariants as rules
 use Rattle.savi_kinds.specs.declared.verdict.Scope.TheVariants as scopes
-use Rattle.savi_kinds.specs.ValidPlan.{IsPlanPrefix, IsValidPlan}
+use Rattle.savi_kinds.specs.ValidPlan.{HasPlanVlans, IsPlanPrefix, IsValidPlan}
+use Rattle.savi_kinds.specs.Vlans.{IsVlan}
 use Rattle.v6_chain.specs.Kinds.{kind_of}
 use Rattle.nd_read.specs.Messages.{named}
 use Rattle.nd_read.specs.NdOf.{nd_of, passes as message_passes}
+use Rattle.eth_frame.specs.Tags.{tag_of}
 use Rattle.frame_class.specs.ClassOf.{class_of}
 use Rattle.ra_guard.specs.GuardOf.{guard_of}
 use Rattle.fcfs_states.specs.Aged.{aged, aged_by}
@@ -48,9 +55,18 @@ plan = record {
   life = 300000;
   control = None;
   journal = [];
-  ports = record { number = port_one; role = roles.Host; format = formats.Pcap; input = []; output = [] }
-      ∷ record { number = port_two; role = roles.Trusted; format = formats.Pcap; input = []; output = [] } ∷ [];
+  ports = record { number = port_one; role = roles.Host; format = formats.Pcap; input = []; output = []; vlan = Access 1 }
+      ∷ record { number = port_two; role = roles.Trusted; format = formats.Pcap; input = []; output = []; vlan = Access 1 } ∷ [];
   prefixes = [];
+}
+
+-- a port of VLAN 1 alone
+of_one : {number : Port} {role : Role} {format : Format} → HasPlanVlans (record { number = number; role = role; format = format; input = []; output = []; vlan = Access 1 })
+of_one = record {
+  numbers = All-cons IsVlan 1 [] (lit≤ tt, lit≤ tt) (All-nil IsVlan);
+  some = lit≤ tt;
+  rising = λ k inside. absurd (omega (arith, inside));
+  trusted = λ trunk. absurd (false≢true trunk);
 }
 
 pub plan_is_valid : IsValidPlan plan
@@ -66,8 +82,11 @@ plan_is_valid = record {
   life = (300, refl, (lit≤ tt, lit≤ tt));
   port_count = (lit≤ tt, lit≤ tt);
   ports = two_rise;
+  port_vlans = All-cons HasPlanVlans (record { number = port_one; role = roles.Host; format = formats.Pcap; input = []; output = []; vlan = Access 1 }) (record { number = port_two; role = roles.Trusted; format = formats.Pcap; input = []; output = []; vlan = Access 1 } ∷ []) of_one (All-cons HasPlanVlans (record { number = port_two; role = roles.Trusted; format = formats.Pcap; input = []; output = []; vlan = Access 1 }) [] of_one (All-nil HasPlanVlans));
+  vlan_count = lit≤ tt;
   prefix_count = lit≤ tt;
   plan_prefixes = All-nil IsPlanPrefix;
+  prefix_vlans = All-nil (λ (p : PrefixPlan). IsVlan p.vlan);
   prefixes = λ i j d lower inside. absurd (omega (arith, inside));
 }
   where
@@ -85,7 +104,7 @@ claimed = rows_by plan empty [] (Frame port_one 1000 packet ∷ [])
 
 -- once its test has ended the next packet passes
 pub packet_passes : verdict_of plan empty claimed port_one 301999 packet ≡ verdicts.Pass scopes.All
-unfolding class_of nd_of named message_passes kind_of guard_of judged aged aged_by
+unfolding tag_of class_of nd_of named message_passes kind_of guard_of judged aged aged_by
 packet_passes = refl
 
 -- a tick at 1500 comes first, and the packet passes with it too
@@ -94,11 +113,11 @@ early_tick = lit≤ tt
 
 -- with it the same came in
 pub same_came : came (with_tick plan empty claimed 1500 []) ≡ came claimed
-unfolding class_of nd_of named message_passes kind_of guard_of judged aged aged_by
+unfolding tag_of class_of nd_of named message_passes kind_of guard_of judged aged aged_by
 same_came = refl
 
 pub packet_passes_behind_it : verdict_of plan empty (with_tick plan empty claimed 1500 []) port_one 301999 packet ≡ verdicts.Pass scopes.All
-unfolding class_of nd_of named message_passes kind_of guard_of judged aged aged_by
+unfolding tag_of class_of nd_of named message_passes kind_of guard_of judged aged aged_by
 packet_passes_behind_it = refl
 
 -- a tick at 302000 doesn't come first: the address is lost by then, and the packet is dropped behind it
@@ -111,7 +130,7 @@ passed_last [] = false
 passed_last (a ∷ others) = is_pass a.verdict
 
 pub packet_is_dropped_behind_it : verdict_of plan empty (with_tick plan empty claimed 302000 []) port_one 301999 packet ≡ verdicts.Drop rules.Unverified
-unfolding class_of nd_of named message_passes kind_of guard_of judged aged aged_by
+unfolding tag_of class_of nd_of named message_passes kind_of guard_of judged aged aged_by
 packet_is_dropped_behind_it = refl
 
 -- a frame of at most 1,518 octets may come in at port 1
@@ -127,7 +146,7 @@ tick_changes n m apart one two same = apart (sym one ∙ ap (λ (x : AddrState).
 
 -- with the tick and without it the history is legal
 pub late_tick_is_legal : IsLegal plan empty (with_tick plan empty claimed 302000 [])
-unfolding class_of nd_of named message_passes kind_of guard_of judged aged aged_by
+unfolding tag_of class_of nd_of named message_passes kind_of guard_of judged aged aged_by
 late_tick_is_legal = (
   (
     Tick 302000,
@@ -135,7 +154,7 @@ late_tick_is_legal = (
       open_pass = record { known = refl; running = refl };
       room = refl;
       fits = lit≤ tt;
-      changed = (first_address, tick_changes 0 5 (λ same. omega (arith, same)) refl refl);
+      changed = (1, (first_address, tick_changes 0 5 (λ same. omega (arith, same)) refl refl));
     },
     refl,
   ),

@@ -6,6 +6,7 @@ use Rattle.std.proofs.lemmas.Bool.{and_parts, leb-true, ltb-false}
 use Rattle.std.proofs.lemmas.List.{length-take, length-drop}
 use Rattle.eth_frame.specs.declared.header.Eth.{Eth}
 use Rattle.eth_frame.specs.Frame.{header_of as ethernet_of, payload_of}
+use Rattle.eth_frame.specs.Tags.{is_tag}
 use Rattle.v6_chain.specs.declared.packet.Ip.{Ip}
 use Rattle.v6_chain.specs.declared.outcome.Chain.{Chain}
 use Rattle.v6_chain.specs.declared.outcome.Chain.TheVariants as chains
@@ -23,7 +24,7 @@ use Rattle.frame_class.specs.declared.classes.Class.{Class}
 use Rattle.frame_class.specs.declared.classes.Class.TheVariants.{Ip6}
 use Rattle.frame_class.specs.declared.classes.Read.{Read}
 use Rattle.frame_class.specs.declared.classes.Read.TheVariants.{Udp}
-use Rattle.frame_class.specs.ClassOf.{is_tag, is_packet, is_for_dhcp, dhcp_message_of, message_read_of, read_by, typed_class_of, class_of}
+use Rattle.frame_class.specs.ClassOf.{is_packet, is_for_dhcp, dhcp_message_of, message_read_of, read_by, typed_class_of, class_of}
 use Rattle.frame_class.specs.Reading.{ipv6_type, destination_port, first_of_payload, udp_payload}
 
 -- the message has no more leases than so many octets have room for

@@ -1,6 +1,6 @@
 -- What a frame or a command may add to the weight of the states.
-use Rattle.std.proofs.Common.{◌≡◌, ℕ, ◌+◌, ◌≤◌, ◌==◌, ◌||◌, Bool, true, false, Option, Some, None, Result, Ok, Err, if◌then◌else◌, List, [], ◌∷◌, length, refl, ap, ◌∙◌, arith}
-use Rattle.std.proofs.lemmas.Bool.{eq-eqb}
+use Rattle.std.proofs.Common.{◌≡◌, ℕ, ◌+◌, ◌≤◌, ◌==◌, ◌||◌, Bool, true, false, Option, Some, None, Result, Ok, Err, if◌then◌else◌, List, [], ◌∷◌, length, refl, ap, ◌∙◌, arith, subst}
+use Rattle.std.proofs.lemmas.Bool.{eq-eqb, eqb-true}
 use Rattle.arrayvec.specs.ArrayVec.{ArrayVec}
 use Rattle.savi_kinds.specs.declared.plan.Method.{Method}
 use Rattle.savi_kinds.specs.declared.plan.Plan.{Plan}
@@ -12,6 +12,7 @@ use Rattle.savi_kinds.specs.declared.verdict.Rule.TheVariants.{OffLink, NaTarget
 use Rattle.savi_kinds.specs.declared.verdict.Scope.TheVariants.{TrustedOnly}
 use Rattle.savi_kinds.specs.declared.verdict.Verdict.TheVariants.{Pass}
 use Rattle.savi_kinds.specs.Ports.{number_of}
+use Rattle.savi_kinds.specs.Vlans.{access_vlan}
 use Rattle.v6_chain.specs.declared.packet.Ip.{Ip}
 use Rattle.dhcp6_read.specs.declared.message.Dhcp.{Dhcp}
 use Rattle.dhcp6_read.specs.declared.message.Lease.{Lease as Offered}
@@ -44,11 +45,16 @@ use Rattle.savi_access.specs.Marks.{Mark, Told, Met, told, named_for, open_reque
 use Rattle.savi_access.specs.Frames.{dad_target, advertised, dhcp_to, is_router_solicitation, is_listener_message, asking_duid, answered_duid, gives_up}
 use Rattle.savi_access.specs.Judged.{Judged, judged, judged_by, judged_for, validated, trusted, heard_or, from_unspecified, unspecified_by, sourced, message, message_by, dhcp_or_other, to_server_by, to_client_or_other, replied, replied_by, asked_by, answered, answered_or, with_event, with_events, is_on_link, is_passed, comes_to, passes, drops}
 use Rattle.savi_access.specs.Plans.{rules_of}
+use Rattle.savi_access.specs.VlanMarks.{in_vlan}
+use Rattle.savi_access.proofs.OwnVlan.{other_in, rows_same}
+use Rattle.savi_access.proofs.OtherVlans.{leaves_judged}
 use Rattle.savi_access.proofs.Aged.{aged-with, state_in-aged}
 use Rattle.savi_access.proofs.TablesOf.{table_after}
-use Rattle.savi_history.specs.Vlans.{the_vlan}
-use Rattle.savi_history.specs.Commands.{commanded, ordered, ordered_unless, refusal_of, rows_told}
-use Rattle.savi_history.specs.Marks.{judged_at}
+use Rattle.savi_history.specs.Vlans.{is_vlan}
+use Rattle.savi_history.specs.Commands.{commanded, fixed_in, ordered, ordered_unless, refusal_of, rows_told}
+use Rattle.savi_history.specs.Marks.{judged_at, untold}
+use Rattle.savi_history.proofs.Commanding.{some_port}
+use Rattle.savi_history.proofs.FrameVlans.{untold_marks}
 use Rattle.savi_laws.proofs.Weights.{weight_of, weight, cost_of, state_weight, changed_weight, event-weight}
 use Rattle.savi_laws.proofs.FewLeases.{AreFewIn, ShowsFew, HasFew, Shows, shown_if}
 
@@ -236,24 +242,56 @@ module _ (r : AccessRules) (base : AccessBase) (times : AreTimes r.addresses.tim
     unfolding judged
     frame_weight class few = by_guard (guard_of (r.role_of (number_of port)) r.drop_unknown class) class few
 
--- so it is where the port may be shut
-pub judged_weight : (r : AccessRules) (base : AccessBase) (times : AreTimes r.addresses.times) (tables : AreTables base.addresses) (port : Port) (t : ℕ) (past : List Mark) (octets : ℕ) → octets ≤ 1518 → (shut : Bool) (class : Class) → HasFew octets class
-    → weight (rows_at r.addresses base.addresses (told (judged_at r base shut past port t class).marks) t the_vlan) ≤ weight (rows_at r.addresses base.addresses (told past) t the_vlan) + 170
-judged_weight r base times tables port t past octets short true class few = omega arith
-judged_weight r base times tables port t past octets short false class few = frame_weight r base times tables the_vlan port t past octets short class few
+-- what was told of one VLAN is nothing to another
+other_rows : (r : AccessRules) (base : AccessBase) (u t : ℕ) (past new : List Mark) → in_vlan u new ≡ in_vlan u past → rows_at r.addresses base.addresses (told new) t u ≡ rows_at r.addresses base.addresses (told past) t u
+other_rows r base u t past new same = rows_same r base u some_port t new past same
 
-module _ (plan : Plan) (base : AccessBase) (times : AreTimes (rules_of plan).addresses.times) (tables : AreTables base.addresses) (t : ℕ) (past : List Mark) where
+-- what a frame of a VLAN may add to each VLAN
+abbrev pub added : Option ℕ → ℕ → ℕ
+added own u = if is_vlan u own then 170 else 0
+
+-- so it is where the port may be shut, and the frame may have no VLAN
+module _ (r : AccessRules) (base : AccessBase) (times : AreTimes r.addresses.times) (tables : AreTables base.addresses) (port : Port) (t : ℕ) (past : List Mark) (octets : ℕ) (short : octets ≤ 1518) (class : Class) (few : HasFew octets class) where
+  abbrev weighs_in : ℕ → List Mark → ℕ
+  weighs_in u marks = weight (rows_at r.addresses base.addresses (told marks) t u)
+
+  own_weight : (v u : ℕ) (b : Bool) → (v == u) ≡ b → weighs_in u (judged r base v port t past class).marks ≤ weighs_in u past + (if b then 170 else 0)
+  own_weight v u true is =
+      subst (λ (n : ℕ). weighs_in n (judged r base v port t past class).marks ≤ weighs_in n past + 170) (eqb-true v u is)
+      (frame_weight r base times tables v port t past octets short class few)
+  own_weight v u false apart =
+      omega (arith, ap weight (other_rows r base u t past (judged r base v port t past class).marks (leaves_judged r base v u apart port t past class)))
+
+  pub judged_weight : (shut : Bool) (own : Option ℕ) (u : ℕ) → weighs_in u (judged_at r base shut past port t own class).marks ≤ weighs_in u past + added own u
+  judged_weight true own u = omega arith
+  judged_weight false (Some v) u = own_weight v u (v == u) refl
+  judged_weight false None u =
+      let same : weighs_in u (untold past (guard_of roles.Trusted r.drop_unknown class)).marks ≡ weighs_in u past = ap (weighs_in u) (untold_marks past (guard_of roles.Trusted r.drop_unknown class)) in
+      omega (arith, same)
+
+module _ (plan : Plan) (base : AccessBase) (times : AreTimes (rules_of plan).addresses.times) (tables : AreTables base.addresses) (t : ℕ) (past : List Mark) (u : ℕ) where
   abbrev Lower : List Mark → Type 0
-  Lower marks = weight (rows_at (rules_of plan).addresses base.addresses (told marks) t the_vlan) ≤ weight (rows_at (rules_of plan).addresses base.addresses (told past) t the_vlan)
+  Lower marks = weight (rows_at (rules_of plan).addresses base.addresses (told marks) t u) ≤ weight (rows_at (rules_of plan).addresses base.addresses (told past) t u)
 
-  order_weight : (a : ℕ) (event : Ev) → cost_of event ≤ 0 → Lower (Told (named_for (rules_of plan) base the_vlan t past a event) ∷ past)
-  order_weight a event free =
-      omega (arith, free, named_weight (rules_of plan).addresses base.addresses times tables (named_for (rules_of plan) base the_vlan t past a event) (told past))
+  order_at : (vlan : ℕ) (b : Bool) → (vlan == u) ≡ b → (a : ℕ) (event : Ev) → cost_of event ≤ 0 → Lower (Told (named_for (rules_of plan) base vlan t past a event) ∷ past)
+  order_at vlan true is a event free =
+      subst (λ (n : ℕ). weight (rows_at (rules_of plan).addresses base.addresses (told (Told (named_for (rules_of plan) base vlan t past a event) ∷ past)) t n) ≤ weight (rows_at (rules_of plan).addresses base.addresses (told past) t n)) (eqb-true vlan u is)
+      (omega (arith, free, named_weight (rules_of plan).addresses base.addresses times tables (named_for (rules_of plan) base vlan t past a event) (told past)))
+  order_at vlan false apart a event free =
+      let mark : Mark = Told (named_for (rules_of plan) base vlan t past a event) in
+      omega (arith, ap weight (other_rows (rules_of plan) base u t past (mark ∷ past) (other_in u mark past apart)))
+
+  order_weight : (vlan a : ℕ) (event : Ev) → cost_of event ≤ 0 → Lower (Told (named_for (rules_of plan) base vlan t past a event) ∷ past)
+  order_weight vlan a event free = order_at vlan (vlan == u) refl a event free
+
+  fixed_weight : (own : Option ℕ) (a : ℕ) (port : Port) → Lower (fixed_in plan base t own a port past)
+  fixed_weight (Some vlan) a port = order_weight vlan a (Fix port) (omega arith)
+  fixed_weight None a port = omega arith
 
   ordered_weight : (order : Result Command CmdFault) → Lower (ordered plan base t order past)
   ordered_weight (Err fault) = omega arith
-  ordered_weight (Ok (orders.Static address port)) = order_weight address.0 (Fix port) (omega arith)
-  ordered_weight (Ok (orders.Clear address)) = order_weight address.0 Clear (omega arith)
+  ordered_weight (Ok (orders.Static address port)) = fixed_weight (access_vlan plan (number_of port)) address.0 port
+  ordered_weight (Ok (orders.Clear vlan address)) = order_weight vlan address.0 Clear (omega arith)
   ordered_weight (Ok (orders.Shut port)) = omega arith
   ordered_weight (Ok (orders.Reopen port)) = omega arith
   ordered_weight (Ok orders.ShowBindings) = omega arith
@@ -266,6 +304,6 @@ module _ (plan : Plan) (base : AccessBase) (times : AreTimes (rules_of plan).add
   unless_weight order (Some refusal) = omega arith
   unless_weight order None = ordered_weight order
 
-  -- a command adds nothing
+  -- a command adds nothing in any VLAN
   pub command_weight : (order : Result Command CmdFault) → Lower (commanded plan base t order past)
   command_weight order = unless_weight order (refusal_of plan (rows_told plan base past t) order)

@@ -3,7 +3,6 @@ pub mod Walking
 pub mod Refusing
 pub mod OwnMarks
 pub mod Raising
-pub mod OwnVlan
 pub mod FewEnds
 pub mod Given
 pub mod Pauses

@@ -1,17 +1,18 @@
 -- A session with room for all that came in is of one segment.
-use Rattle.std.proofs.Common.{◌≡◌, ℕ, ◌+◌, ◌*◌, ◌≤◌, Bool, true, false, List, [], ◌∷◌, ◌++◌, append-nil, length, refl, sym, ap, subst, ◌∙◌, arith, if◌then◌else◌}
+use Rattle.std.proofs.Common.{◌≡◌, ℕ, ◌+◌, ◌*◌, ◌≤◌, Bool, true, false, List, [], ◌∷◌, ◌++◌, append-nil, length, sum_by, refl, sym, ap, subst, ◌∙◌, arith, if◌then◌else◌}
 use Rattle.std.proofs.lemmas.Bool.{false≢true}
+use Rattle.std.proofs.lemmas.List.Sums.{sum_by-cons}
 use Rattle.savi_kinds.specs.declared.plan.Plan.{Plan}
 use Rattle.savi_kinds.specs.ValidPlan.{IsValidPlan}
+use Rattle.savi_kinds.specs.Vlans.{vlans_of}
 use Rattle.hist_store.specs.Rows.{Row, held}
 use Rattle.checkpoint.specs.Bases.{empty}
 use Rattle.savi_history.specs.Endings.{has_paused_end}
 use Rattle.savi_history.specs.Legal.{IsLegal}
-use Rattle.savi_history.specs.Vlans.{the_vlan}
 use Rattle.savi_history.proofs.Starting.{empty_within}
 use Rattle.savi_segments.specs.Segments.{AreLegal, HaveTurned, IsWholeSession, base_after, joined}
 use Rattle.savi_laws.specs.Answered.{inputs, is_input}
-use Rattle.savi_laws.specs.Budgets.{Suffices, causes, input_count}
+use Rattle.savi_laws.specs.Budgets.{Suffices, causes, input_count, standing}
 use Rattle.savi_laws.proofs.Enough.{none_full}
 use Rattle.savi_laws.proofs.Pauses.{no_pause}
 
@@ -43,13 +44,21 @@ suffices_less plan i j h k less light suffices = record {
   bytes = lighter h k plan.bytes light suffices.bytes;
 }
 
+-- at the start of a switch no address has a state
+none_stand : (vlans : List ℕ) → sum_by (λ vlan. length (empty.rows vlan)) vlans ≡ 0
+none_stand [] = refl
+none_stand (vlan ∷ vlans) =
+    let rest = none_stand vlans in
+    let here : length (empty.rows vlan) ≡ 0 = refl in
+    omega (arith, sum_by-cons (λ (v : ℕ). length (empty.rows v)) vlan vlans, here, rest)
+
 module _ (plan : Plan) (valid : IsValidPlan plan) where
   -- no pass of the first segment is paused
   pub first_unpaused : (segment : List Row) → IsLegal plan empty segment → Suffices plan (input_count segment) (held segment) → has_paused_end segment ≡ false
   first_unpaused segment legal suffices =
-      let none : length (empty.rows the_vlan) ≡ 0 = refl in
+      let none : standing plan empty ≡ 0 = none_stand (vlans_of plan) in
       none_full plan empty valid.port_count.1 (empty_within plan valid) segment legal
-      (suffices_less plan (input_count segment) (causes empty segment) (held segment) (held segment) (omega (arith, none)) (omega arith) suffices)
+      (suffices_less plan (input_count segment) (causes plan empty segment) (held segment) (held segment) (omega (arith, none)) (omega arith) suffices)
 
   none_before : (segment : List Row) (before : List (List Row)) → AreLegal plan (segment ∷ before) → HaveTurned plan (segment ∷ before)
       → Suffices plan (input_count (joined (segment ∷ before))) (held (joined (segment ∷ before))) → before ≡ []

@@ -7,6 +7,7 @@ use Rattle.savi_kinds.specs.declared.plan.Role.TheVariants as roles
 use Rattle.savi_kinds.specs.Ports.{number_of}
 use Rattle.savi_kinds.specs.declared.verdict.Rule.{Rule}
 use Rattle.v6_chain.specs.declared.packet.Ip.{Ip}
+use Rattle.eth_frame.specs.Tags.{inner}
 use Rattle.frame_class.specs.declared.classes.Class.{Class}
 use Rattle.frame_class.specs.declared.classes.Read.{Read}
 use Rattle.frame_class.specs.ClassOf.{class_of}
@@ -28,7 +29,7 @@ use Rattle.savi_access.specs.Judged.{Judged, answer_to, answered, drops, passes,
 use Rattle.savi_access.specs.Plans.{rules_of, role_of}
 use Rattle.savi_access.proofs.MarksOn.{moved_by, own_marks}
 use Rattle.checkpoint.specs.Bases.{Base, access_of}
-use Rattle.savi_history.specs.Vlans.{the_vlan}
+use Rattle.savi_history.specs.Vlans.{vlan_of_frame}
 use Rattle.savi_history.specs.Moments.{moment_at}
 use Rattle.savi_history.specs.Marks.{marks, judged_at}
 use Rattle.savi_history.specs.Judged.{judged_of}
@@ -96,7 +97,7 @@ as_validated r base vlan port t past class roles.Host other = refl
 as_validated r base vlan port t past class roles.Server other = refl
 as_validated r base vlan port t past class roles.Trusted other = absurd (other refl)
 
-module _ (plan : Plan) (base : Base) (past : List Row) (port : Port) (stamp : ℕ) (octets : List ℕ) (ip : Ip) (read : Read) (comes : ComesToSource plan base past port octets ip read) where
+module _ (plan : Plan) (base : Base) (past : List Row) (port : Port) (stamp vlan : ℕ) (octets : List ℕ) (ip : Ip) (read : Read) (comes : ComesToSource plan base past port vlan octets ip read) where
   abbrev rules : AccessRules
   rules = rules_of plan
 
@@ -106,18 +107,19 @@ module _ (plan : Plan) (base : Base) (past : List Row) (port : Port) (stamp : �
   abbrev now : ℕ
   now = moment_at base past stamp
 
-  by_source : sourced rules (access_of base) the_vlan port now before ip read ≡ followed rules (access_of base) the_vlan port now (source_step plan base past now the_vlan port ip.src.0) read
+  by_source : sourced rules (access_of base) vlan port now before ip read ≡ followed rules (access_of base) vlan port now (source_step plan base past now vlan port ip.src.0) read
   by_source = refl
 
   pub frame_step : judged_of plan base past port stamp octets
-      ≡ followed (rules_of plan) (access_of base) the_vlan port (moment_at base past stamp) (source_step plan base past (moment_at base past stamp) the_vlan port ip.src.0) read
+      ≡ followed (rules_of plan) (access_of base) vlan port (moment_at base past stamp) (source_step plan base past (moment_at base past stamp) vlan port ip.src.0) read
   unfolding judged
   frame_step =
-      ap (λ (shut : Bool). judged_at rules (access_of base) shut before port now (class_of octets)) comes.up
-      ∙ ap (λ (g : Option Rule). judged_by rules (access_of base) the_vlan port now before (class_of octets) g) comes.clear
-      ∙ ap (λ (on : Bool). if on then judged_for rules (access_of base) the_vlan port now before (class_of octets) (role_of plan (number_of port)) else passes before) comes.validates
-      ∙ as_validated rules (access_of base) the_vlan port now before (class_of octets) (role_of plan (number_of port)) comes.role
-      ∙ ap (validated rules (access_of base) the_vlan port now before) comes.packet
-      ∙ ap (λ (b : Bool). if b then from_unspecified rules (access_of base) the_vlan port now before ip read else sourced rules (access_of base) the_vlan port now before ip read)
+      ap (λ (shut : Bool). judged_at rules (access_of base) shut before port now (vlan_of_frame plan (number_of port) octets) (class_of (inner octets))) comes.up
+      ∙ ap (λ (own : Option ℕ). judged_at rules (access_of base) false before port now own (class_of (inner octets))) comes.vlan_is
+      ∙ ap (λ (g : Option Rule). judged_by rules (access_of base) vlan port now before (class_of (inner octets)) g) comes.clear
+      ∙ ap (λ (on : Bool). if on then judged_for rules (access_of base) vlan port now before (class_of (inner octets)) (role_of plan (number_of port)) else passes before) comes.validates
+      ∙ as_validated rules (access_of base) vlan port now before (class_of (inner octets)) (role_of plan (number_of port)) comes.role
+      ∙ ap (validated rules (access_of base) vlan port now before) comes.packet
+      ∙ ap (λ (b : Bool). if b then from_unspecified rules (access_of base) vlan port now before ip read else sourced rules (access_of base) vlan port now before ip read)
       (ne_eqb ip.src.0 0 comes.source)
       ∙ by_source

@@ -15,6 +15,7 @@ use Rattle.savi_kinds.specs.Ports.{number_of}
 use Rattle.v6_chain.specs.declared.packet.Ip.{Ip}
 use Rattle.dhcp6_read.specs.declared.message.Dhcp.{Dhcp}
 use Rattle.dhcp6_read.specs.declared.message.Lease.{Lease as Offered}
+use Rattle.eth_frame.specs.Tags.{inner}
 use Rattle.frame_class.specs.declared.classes.Class.{Class}
 use Rattle.frame_class.specs.declared.classes.Class.TheVariants.{Runt, Tagged, Other, BadIp, Ip6}
 use Rattle.frame_class.specs.declared.classes.Read.{Read}
@@ -48,11 +49,12 @@ use Rattle.savi_access.proofs.Held.{held_once}
 use Rattle.savi_access.proofs.Holding.{held-told, told-held, more-held}
 use Rattle.savi_access.proofs.MarksOn.{state_of-own, state_of-other}
 use Rattle.checkpoint.specs.Bases.{Base, access_of}
-use Rattle.savi_history.specs.Vlans.{the_vlan}
+use Rattle.savi_history.specs.Vlans.{vlan_of_frame}
 use Rattle.savi_history.specs.ShutPorts.{is_shut}
 use Rattle.savi_history.specs.Moments.{moment_at}
 use Rattle.savi_history.specs.Limits.{IsWithinLimits}
-use Rattle.savi_history.specs.Marks.{marks, judged_at}
+use Rattle.savi_history.specs.Marks.{marks, judged_at, untold}
+use Rattle.savi_history.proofs.FrameVlans.{untold_marks}
 use Rattle.savi_history.specs.Judged.{judged_of}
 use Rattle.savi_laws.specs.Raised.{held_after, HoldsAfter, GivesLease}
 
@@ -361,26 +363,37 @@ module _ (plan : Plan) (base : Base) (past : List Row) (port q : Port) (stamp : 
   addresses = within.access.addresses
 
   times : AreTimes (rules_of plan).addresses.times
-  times = let kept : IsWithinRules (rules_of plan).addresses.times (rules_of plan).addresses.per_port (base.rows the_vlan) = addresses.kept the_vlan in kept.times
+  times = let kept : IsWithinRules (rules_of plan).addresses.times (rules_of plan).addresses.per_port (base.rows 1) = addresses.kept 1 in kept.times
 
-  -- at a port that is shut nothing is told
-  frame_good : (held_by : List Named → ℕ) (Of : ℕ → Type 0) → Raises q the_vlan now held_by Of → held_by (told before) < held_by (told behind)
-      → (a : ℕ) × Of a × GivesLease (access_of base) the_vlan now q a before behind
-  frame_good held_by Of raises = by_shut (is_shut plan base (number_of port) past)
+  -- the VLAN of the frame, in which it gives a lease of such an address
+  abbrev Gives : (ℕ → ℕ → Type 0) → Option ℕ → List Mark → Type 0
+  Gives Of own marks = (v : ℕ) × (a : ℕ) × (own ≡ Some v) × Of v a × GivesLease (access_of base) v now q a before marks
+
+  -- at a port that is shut, and of a frame without a VLAN, nothing is told
+  frame_good : (held_by : List Named → ℕ) (Of : ℕ → ℕ → Type 0) → ((v : ℕ) → Raises q v now held_by (Of v)) → held_by (told before) < held_by (told behind)
+      → Gives Of (vlan_of_frame plan (number_of port) octets) behind
+  frame_good held_by Of raises = by_shut (is_shut plan base (number_of port) past) (vlan_of_frame plan (number_of port) octets)
     where
-      by_shut : (b : Bool) → held_by (told before) < held_by (told (judged_at (rules_of plan) (access_of base) b before port now (class_of octets)).marks)
-          → (a : ℕ) × Of a × GivesLease (access_of base) the_vlan now q a before (judged_at (rules_of plan) (access_of base) b before port now (class_of octets)).marks
-      by_shut true more =
+      by_shut : (b : Bool) (own : Option ℕ) → held_by (told before) < held_by (told (judged_at (rules_of plan) (access_of base) b before port now own (class_of (inner octets))).marks)
+          → Gives Of own (judged_at (rules_of plan) (access_of base) b before port now own (class_of (inner octets))).marks
+      by_shut true own more =
           let same : held_by (told before) < held_by (told before) = more in
           absurd (omega (arith, same))
-      by_shut false more = judged_good (rules_of plan) (access_of base) the_vlan port now q apart before held_by Of raises (class_of octets) more
+      by_shut false (Some v) more =
+          let found = judged_good (rules_of plan) (access_of base) v port now q apart before held_by (Of v) (raises v) (class_of (inner octets)) more in
+          (v, found.0, refl, found.1, found.2)
+      by_shut false None more =
+          let rule : Option Rule = guard_of roles.Trusted plan.drop_unknown (class_of (inner octets)) in
+          let same : held_by (told (untold before rule).marks) ≡ held_by (told before) = ap (λ (l : List Mark). held_by (told l)) (untold_marks before rule) in
+          let none : held_by (told before) < held_by (told (untold before rule).marks) = more in
+          absurd (omega (arith, none, same))
 
   pub frame_raises : held_after plan base before now (number_of q) < held_after plan base behind now (number_of q)
-      → (a : ℕ) × GivesLease (access_of base) the_vlan now q a before behind
+      → (v : ℕ) × (a : ℕ) × (vlan_of_frame plan (number_of port) octets ≡ Some v) × GivesLease (access_of base) v now q a before behind
   frame_raises more =
-      let found : (a : ℕ) × Unit {0} × GivesLease (access_of base) the_vlan now q a before behind =
-      frame_good (λ told. held_at (rules_of plan).addresses (access_of base).addresses told now (number_of q)) (λ a. Unit {0}) one_more more in
-      (found.0, found.2)
+      let found : Gives (λ v a. Unit {0}) (vlan_of_frame plan (number_of port) octets) behind =
+      frame_good (λ told. held_at (rules_of plan).addresses (access_of base).addresses told now (number_of q)) (λ v a. Unit {0}) one_more more in
+      (found.0, found.1, found.2, found.4)
     where
       tables : AreTables (access_of base).addresses
       tables = tables_in (rules_of plan).addresses (access_of base).addresses addresses
@@ -392,8 +405,8 @@ module _ (plan : Plan) (base : Base) (past : List Row) (port q : Port) (stamp : 
           more-held (rules_of plan).addresses (access_of base).addresses times tables named past q
           (subst (λ (u : ℕ). held_at (rules_of plan).addresses (access_of base).addresses past u (number_of q) < held_at (rules_of plan).addresses (access_of base).addresses (named ∷ past) u (number_of q)) (sym at) more)
 
-      one_more : Raises q the_vlan now (λ told. held_at (rules_of plan).addresses (access_of base).addresses told now (number_of q)) (λ a. Unit {0})
-      one_more named past own at =
+      one_more : (v : ℕ) → Raises q v now (λ told. held_at (rules_of plan).addresses (access_of base).addresses told now (number_of q)) (λ a. Unit {0})
+      one_more v named past own at =
           elim (cases_lt (held_at (rules_of plan).addresses (access_of base).addresses past now (number_of q)) (held_at (rules_of plan).addresses (access_of base).addresses (named ∷ past) now (number_of q))) [
             | inl more ↦ inr (at_moment named past now at more, tt)
             | inr not ↦ inl (omega (arith, not))
@@ -403,19 +416,19 @@ module _ (plan : Plan) (base : Base) (past : List Row) (port q : Port) (stamp : 
     abbrev once : List Named → ℕ
     once told = held_once (number_of q) (state_at (rules_of plan).addresses (access_of base).addresses told now vlan a)
 
-    abbrev IsIt : ℕ → Type 0
-    IsIt b = (the_vlan ≡ vlan) × (b ≡ a)
+    abbrev IsIt : ℕ → ℕ → Type 0
+    IsIt v b = (v ≡ vlan) × (b ≡ a)
 
-    its_mark : Raises q the_vlan now once IsIt
-    its_mark named past own at =
+    its_mark : (v : ℕ) → Raises q v now once (IsIt v)
+    its_mark v named past own at =
         subst (λ (t : ℕ). (held_once (number_of q) (state_at (rules_of plan).addresses (access_of base).addresses (named ∷ past) t vlan a)
-        ≤ held_once (number_of q) (state_at (rules_of plan).addresses (access_of base).addresses past t vlan a)) ⊎ (MakesHolder q named.room named.event × IsIt named.address)) at
+        ≤ held_once (number_of q) (state_at (rules_of plan).addresses (access_of base).addresses past t vlan a)) ⊎ (MakesHolder q named.room named.event × IsIt v named.address)) at
         (elim (mark_once (rules_of plan).addresses (access_of base).addresses times vlan a q named past) [
           | inl low ↦ inl low
           | inr makes ↦ inr (known makes)
         ])
       where
-        known : MakesHolder q named.room named.event × (named.vlan ≡ vlan) × (named.address ≡ a) → MakesHolder q named.room named.event × IsIt named.address
+        known : MakesHolder q named.room named.event × (named.vlan ≡ vlan) × (named.address ≡ a) → MakesHolder q named.room named.event × IsIt v named.address
         known (makes, there, it) = (makes, (sym own ∙ there, it))
 
     abbrev state_before : AddrState
@@ -426,9 +439,9 @@ module _ (plan : Plan) (base : Base) (past : List Row) (port q : Port) (stamp : 
 
     pub frame_gives : ¬ HoldsAfter plan base before now vlan a q → HoldsAfter plan base behind now vlan a q → GivesLease (access_of base) vlan now q a before behind
     frame_gives free holds =
-        let found : (b : ℕ) × IsIt b × GivesLease (access_of base) the_vlan now q b before behind = frame_good once IsIt its_mark one_more in
-        subst (λ (v : ℕ). GivesLease (access_of base) v now q a before behind) found.1.0
-        (subst (λ (b : ℕ). GivesLease (access_of base) the_vlan now q b before behind) found.1.1 found.2)
+        let found : Gives IsIt (vlan_of_frame plan (number_of port) octets) behind = frame_good once IsIt its_mark one_more in
+        subst (λ (v : ℕ). GivesLease (access_of base) v now q a before behind) found.3.0
+        (subst (λ (b : ℕ). GivesLease (access_of base) found.0 now q b before behind) found.3.1 found.4)
       where
         none_before : (b : Bool) → is_held_at (number_of q) state_before ≡ b → held_once (number_of q) state_before ≡ 0
         none_before true is = absurd (free (held-told state_before q is))

@@ -51,7 +51,7 @@ module _ (plan : Plan) (base : Base) (past : List Row) (stamp : ℕ) (line : Lis
         (record {
           tells = tells_nothing;
           shut = shuts_nothing;
-          live = λ t vlan later before. live_left (moment_at base past stamp) t (stations vlan base past) later;
+          live = λ t vlan later before. live_left (moment_at base past stamp) t (stations vlan plan base past) later;
         })
         (omega arith)
 

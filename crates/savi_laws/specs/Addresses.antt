@@ -1,12 +1,13 @@
 -- What the verdict on an address rests on: what was told of it, the moment, and the room of the port. And which frames come
 -- to it.
-use Rattle.std.specs.Prelude.{◌≡◌, ◌≢◌, ℕ, Bool, true, false, List, None}
+use Rattle.std.specs.Prelude.{◌≡◌, ◌≢◌, ℕ, Bool, true, false, List, Some, None}
 use Rattle.savi_kinds.specs.declared.port.Port.{Port}
 use Rattle.savi_kinds.specs.declared.plan.Plan.{Plan}
 use Rattle.savi_kinds.specs.declared.plan.Role.TheVariants.{Trusted}
 use Rattle.savi_kinds.specs.declared.verdict.Rule.TheVariants.{OffLink}
 use Rattle.savi_kinds.specs.Ports.{number_of}
 use Rattle.eth_frame.specs.declared.header.Eth.{Eth}
+use Rattle.eth_frame.specs.Tags.{inner}
 use Rattle.v6_chain.specs.declared.packet.Ip.{Ip}
 use Rattle.frame_class.specs.declared.classes.Class.TheVariants.{Ip6}
 use Rattle.frame_class.specs.declared.classes.Read.{Read}
@@ -24,6 +25,7 @@ use Rattle.savi_access.specs.Marks.{told}
 use Rattle.savi_access.specs.Judged.{Judged, answered_or}
 use Rattle.savi_access.specs.Plans.{rules_of, role_of}
 use Rattle.checkpoint.specs.Bases.{Base, access_of}
+use Rattle.savi_history.specs.Vlans.{vlan_of_frame}
 use Rattle.savi_history.specs.ShutPorts.{is_shut}
 use Rattle.savi_history.specs.Marks.{marks}
 
@@ -45,13 +47,16 @@ port_has_room plan base past t vlan port =
 abbrev pub source_step : Plan → Base → List Row → ℕ → ℕ → Port → ℕ → Judged
 source_step plan base past t vlan port a = answered_or (rules_of plan) (access_of base) vlan port t OffLink (marks plan base past) a (Sent port)
 
--- A frame with these octets at a port comes to the rules on its source: the port isn't shut, no rule on messages stops the
--- frame, sources are validated there, and it carries this packet, which has a source and shows this behind its header.
-pub record ComesToSource (plan : Plan) (base : Base) (past : List Row) (port : Port) (octets : List ℕ) (ip : Ip) (read : Read) : Type 0 where
+-- A frame with these octets at a port comes to the rules on its source: the port isn't shut, the frame is of this VLAN, no
+-- rule on messages stops it, sources are validated there, and it carries this packet, which has a source and shows this
+-- behind its header.
+pub record ComesToSource (plan : Plan) (base : Base) (past : List Row) (port : Port) (vlan : ℕ) (octets : List ℕ) (ip : Ip)
+    (read : Read) : Type 0 where
   pub up : is_shut plan base (number_of port) past ≡ false
-  pub clear : guard_of (role_of plan (number_of port)) plan.drop_unknown (class_of octets) ≡ None
+  pub vlan_is : vlan_of_frame plan (number_of port) octets ≡ Some vlan
+  pub clear : guard_of (role_of plan (number_of port)) plan.drop_unknown (class_of (inner octets)) ≡ None
   pub validates : plan.savi ≡ true
   pub role : role_of plan (number_of port) ≢ Trusted
   pub eth : Eth
-  pub packet : class_of octets ≡ Ip6 eth ip read
+  pub packet : class_of (inner octets) ≡ Ip6 eth ip read
   pub source : ip.src.0 ≢ 0

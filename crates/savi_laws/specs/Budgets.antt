@@ -4,11 +4,11 @@ use Rattle.std.specs.List.{flat_map}
 use Rattle.savi_kinds.specs.declared.plan.Plan.{Plan}
 use Rattle.savi_kinds.specs.Arrivals.{Arrival, Frame, Long, Input}
 use Rattle.savi_kinds.specs.Ports.{number_of}
+use Rattle.savi_kinds.specs.Vlans.{vlans_of}
 use Rattle.cli_lang.specs.Arrivals.{Line}
 use Rattle.cli_lang.specs.Arrivals as control
 use Rattle.hist_store.specs.Rows.{Row}
 use Rattle.checkpoint.specs.Bases.{Base}
-use Rattle.savi_history.specs.Vlans.{the_vlan}
 use Rattle.savi_history.specs.PortInputs.{arrived}
 use Rattle.savi_laws.specs.Answered.{inputs}
 
@@ -56,9 +56,13 @@ replay_entries plan count = 34 + (length plan.ports + 1) * count
 abbrev pub SufficesForReplay : Plan → ℕ → ℕ → Type 0
 SufficesForReplay plan count octets = HasRoomFor plan (replay_entries plan count) octets
 
+-- how many addresses of the VLANs of a plan had a state before
+abbrev pub standing : Plan → Base → ℕ
+standing plan base = sum_by (λ vlan. length (base.rows vlan)) (vlans_of plan)
+
 -- what may bring entries about: frames, longer frames and lines that came in, and addresses that had a state before
-abbrev pub causes : Base → List Row → ℕ
-causes base past = input_count past + length (base.rows the_vlan)
+abbrev pub causes : Plan → Base → List Row → ℕ
+causes plan base past = input_count past + standing plan base
 
 -- as many entries as any history with so many causes comes to at most: the ends of all passes, and 256 for each cause
 abbrev pub entries_most : ℕ → ℕ

@@ -23,8 +23,8 @@ refusal_at plan base past stamp line =
 
 -- The entry of a line changes nothing but by the time that passed until it. Nothing more is told of addresses and requests:
 -- their states, and which requests are open, follow from what was told, and age. No port is shut or opened, and no pass
--- ends. The stations are those that are live by then. At each port waits what would wait behind a tick with this stamp: what
--- waited before, and the probes that fell due by then.
+-- ends. The stations of each VLAN are those that are live by then. At each port waits what would wait behind a tick with this
+-- stamp: what waited before, and the probes that fell due by then.
 pub record ChangesNothing (plan : Plan) (base : Base) (past : List Row) (stamp : ℕ) (line : List ℕ) : Type 0 where
   pub told : marks plan base (with_event plan base past (Command stamp line)) ≡ marks plan base past
   pub shut : (number : ℕ)
@@ -32,8 +32,8 @@ pub record ChangesNothing (plan : Plan) (base : Base) (past : List Row) (stamp :
   pub ended : (pass : ℕ)
       → has_ended base pass (with_event plan base past (Command stamp line)) ≡ has_ended base pass past
   pub known : (vlan : ℕ)
-      → stations vlan base (with_event plan base past (Command stamp line))
-      ≡ live_at (moment_at base past stamp) (stations vlan base past)
+      → stations vlan plan base (with_event plan base past (Command stamp line))
+      ≡ live_at (moment_at base past stamp) (stations vlan plan base past)
   pub waiting : (number : ℕ)
       → queue plan base number (with_event plan base past (Command stamp line))
       ≡ queue plan base number (with_event plan base past (Tick stamp))

@@ -8,7 +8,6 @@ ghost use Rattle.savi_kinds.specs.declared.port.Port.{Port};
 ghost use Rattle.savi_kinds.specs.declared.entry.Who.{Who};
 ghost use Rattle.savi_kinds.specs.Ports.{number_of};
 ghost use Rattle.v6_chain.specs.declared.packet.Ip.{Ip};
-ghost use Rattle.frame_class.specs.declared.classes.Class.{Class};
 ghost use Rattle.frame_class.specs.declared.classes.Read.{Read};
 ghost use Rattle.fcfs_states.specs.States.{Same};
 ghost use Rattle.cli_lang.specs.Arrivals as control;
@@ -16,9 +15,7 @@ ghost use Rattle.hist_store.specs.Rows.{Row, held};
 ghost use Rattle.control_replies.specs.declared.refusal.Refusal.{Refusal};
 ghost use Rattle.control_replies.specs.Replies.{refusal_text};
 ghost use Rattle.savi_access.specs.Rows.{state_in};
-ghost use Rattle.savi_access.specs.Rules.{AccessRules, AccessBase};
-ghost use Rattle.savi_access.specs.Marks.{Mark};
-ghost use Rattle.savi_access.specs.Judged.{judged, followed};
+ghost use Rattle.savi_access.specs.Judged.{followed};
 ghost use Rattle.savi_access.specs.Plans.{rules_of};
 ghost use Rattle.checkpoint.specs.Bases.{Base, access_of};
 ghost use Rattle.savi_history.specs.ControlInputs.{entered_lines};
@@ -28,7 +25,8 @@ ghost use Rattle.savi_history.specs.Replay.{Stops, with_event};
 ghost use Rattle.savi_segments.specs.Replay.{replayed};
 ghost use Rattle.savi_segments.specs.Segments.{AreLegal, IsWholeSession, joined};
 ghost use Rattle.savi_segments.specs.Unbroken.{unbroken};
-ghost use Rattle.savi_history.specs.Events.{Event, Command, judged_of, the_vlan};
+ghost use Rattle.savi_history.specs.Events.{Event, Command, judged_of};
+ghost use Rattle.savi_history.specs.Vlans.{vlan_of_frame};
 ghost use Rattle.savi_history.specs.Legal.{IsLegal, IsOpen};
 ghost use Rattle.savi_history.specs.Limits.{IsWithinLimits, has_room};
 ghost use Rattle.savi_history.specs.Marks.{marks};
@@ -44,7 +42,6 @@ ghost use Rattle.savi_laws.specs.Raised.{held_after, HoldsAfter, GivesLease};
 ghost use Rattle.savi_laws.specs.Budgets.{input_count, given_count, given_octets, lines_of, arrivals_of, all_arrived};
 ghost use Rattle.savi_laws.specs.Budgets.{replay_entries, SufficesForReplay, causes, entries_most, Suffices};
 ghost use Rattle.savi_laws.specs.Progress.{has_step};
-ghost use Rattle.savi_laws.specs.VlanMarks.{in_vlan, IsSameIn};
 
 /// Frames, longer frames and lines with their moments decide all verdicts, and to which ports frames go: ticks, drains and
 /// ends between them don't. The same is known from the later last moment on. It holds of any rows of events; a legal
@@ -111,15 +108,16 @@ pub fn an_address_follows_from_its_own_marks()
         → told_on plan base past vlan a ≡ told_on plan other_base other vlan a
         → port_has_room plan base past t vlan port ≡ port_has_room plan other_base other t vlan port
         → (source_step plan base past t vlan port a).probe ≡ (source_step plan other_base other t vlan port a).probe }
-    ensures step { (plan : Plan) (base : Base) (past : List Row) (port : Port) (stamp : ℕ) (octets : List ℕ) (ip : Ip) (read : Read)
-        → ComesToSource plan base past port octets ip read
+    ensures step { (plan : Plan) (base : Base) (past : List Row) (port : Port) (stamp vlan : ℕ) (octets : List ℕ)
+        (ip : Ip) (read : Read)
+        → ComesToSource plan base past port vlan octets ip read
         → let t = moment_at base past stamp in judged_of plan base past port stamp octets
-        ≡ followed (rules_of plan) (access_of base) the_vlan port t (source_step plan base past t the_vlan port ip.src.0) read }
+        ≡ followed (rules_of plan) (access_of base) vlan port t (source_step plan base past t vlan port ip.src.0) read }
 {}
 
 /// A frame at a port makes another port hold an address only by a lease of this address: it meets an open request of that
 /// port, and gives it the address (RFC 7513 section 6). So no port holds more addresses by a frame of another one without
-/// such a lease.
+/// such a lease, in the VLAN of the frame.
 pub fn a_frame_fills_no_other_port()
     ensures address { (plan : Plan) (base : Base) (past : List Row) (port q : Port) (stamp : ℕ) (octets : List ℕ) (vlan a : ℕ)
         → IsWithinLimits plan base → ¬ Same port q
@@ -130,14 +128,8 @@ pub fn a_frame_fills_no_other_port()
         → IsWithinLimits plan base → ¬ Same port q
         → let t = moment_at base past stamp in let after = (judged_of plan base past port stamp octets).marks in
         held_after plan base (marks plan base past) t (number_of q) < held_after plan base after t (number_of q)
-        → (a : ℕ) × GivesLease (access_of base) the_vlan t q a (marks plan base past) after }
-{}
-
-/// What a frame in a VLAN comes to follows from the marks of that VLAN: its verdict, its probe, and what it tells there.
-pub fn a_frame_reads_its_own_vlan()
-    ensures { (r : AccessRules) (base : AccessBase) (vlan : ℕ) (port : Port) (t : ℕ) (past other : List Mark) (class : Class)
-        → in_vlan vlan past ≡ in_vlan vlan other
-        → IsSameIn vlan (judged r base vlan port t past class) (judged r base vlan port t other class) }
+        → (vlan : ℕ) × (a : ℕ) × (vlan_of_frame plan (number_of port) octets ≡ Some vlan)
+        × GivesLease (access_of base) vlan t q a (marks plan base past) after }
 {}
 
 /// A replay is of one segment where the plan has room for 34 entries and, for each frame, longer frame and line that comes
@@ -170,13 +162,13 @@ pub fn a_budget_suffices_for_a_replay()
 pub fn a_budget_always_suffices()
     ensures entries { (plan : Plan) (base : Base) (past : List Row)
         → IsValidPlan plan → IsWithinLimits plan base → IsLegal plan base past
-        → length past ≤ entries_most (causes base past) }
+        → length past ≤ entries_most (causes plan base past) }
     ensures room { (plan : Plan) (base : Base) (past : List Row) (who : Who)
         → IsValidPlan plan → IsWithinLimits plan base → IsLegal plan base past → IsOpen plan base past who
-        → Suffices plan (causes base past) (held past) → has_room plan past ≡ true }
+        → Suffices plan (causes plan base past) (held past) → has_room plan past ≡ true }
     ensures ends { (plan : Plan) (base : Base) (past : List Row)
         → IsValidPlan plan → IsWithinLimits plan base → IsLegal plan base past
-        → Suffices plan (causes base past) (held past) → has_paused_end past ≡ false }
+        → Suffices plan (causes plan base past) (held past) → has_paused_end past ≡ false }
     ensures given { (plan : Plan) (base : Base) (past : List Row) → IsLegal plan base past
         → (input_count past ≤ given_count (entered_lines past) (all_arrived plan past))
         × (held past ≤ given_octets (entered_lines past) (all_arrived plan past)) }

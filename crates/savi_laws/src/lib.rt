@@ -11,8 +11,7 @@ mod laws;
 
 pub use laws::{
     a_budget_always_suffices, a_budget_suffices_for_a_replay, a_budget_suffices_for_one_segment,
-    a_frame_fills_no_other_port, a_frame_reads_its_own_vlan, a_late_tick_may_change_a_verdict,
-    a_pause_comes_behind_a_step, a_refused_command_changes_nothing,
-    an_address_follows_from_its_own_marks, ticks_can_be_left_out,
-    verdicts_follow_from_what_came_in,
+    a_frame_fills_no_other_port, a_late_tick_may_change_a_verdict, a_pause_comes_behind_a_step,
+    a_refused_command_changes_nothing, an_address_follows_from_its_own_marks,
+    ticks_can_be_left_out, verdicts_follow_from_what_came_in,
 };

@@ -11,6 +11,7 @@ use Rattle.savi_kinds.specs.Ports.{number_of}
 use Rattle.savi_kinds.specs.Orders.{AreInTurn}
 use Rattle.savi_kinds.specs.ValidPlan.{IsValidPlan}
 use Rattle.eth_frame.specs.declared.header.Eth.{Eth}
+use Rattle.eth_frame.specs.Tags.{inner}
 use Rattle.v6_chain.specs.declared.packet.Ip.{Ip}
 use Rattle.frame_class.specs.declared.classes.Class.{Class}
 use Rattle.frame_class.specs.declared.classes.Class.TheVariants.{Runt, Tagged, Other, BadIp, Ip6}
@@ -29,12 +30,12 @@ use Rattle.savi_access.specs.Legal.{AreMarks, HasFront}
 use Rattle.savi_access.specs.Judged.{Judged, judged}
 use Rattle.savi_access.specs.Plans.{rules_of, has_port, role_of}
 use Rattle.savi_access.proofs.StatesKept.{base_times, base_tables}
-use Rattle.savi_access.proofs.PlanRules.{own_ports, unspecified_off_link}
+use Rattle.savi_access.proofs.PlanRules.{unspecified_off_link}
 use Rattle.savi_access.proofs.Living.{lives_at}
 use Rattle.savi_access.proofs.States.{off_link}
 use Rattle.savi_access.proofs.FirstCome.{keeps_first}
 use Rattle.checkpoint.specs.Bases.{Base, empty, access_of}
-use Rattle.savi_history.specs.Vlans.{the_vlan}
+use Rattle.savi_history.specs.Vlans.{vlan_of_frame}
 use Rattle.savi_history.specs.Limits.{IsWithinLimits}
 use Rattle.savi_history.specs.Moments.{last_moment, moment_at}
 use Rattle.savi_history.specs.ShutPorts.{is_shut}
@@ -44,6 +45,7 @@ use Rattle.savi_history.specs.Accesses.{AllPassedRightly, IsTold}
 use Rattle.savi_history.specs.CameFirst.{IsFrom, IsLiveAtEnd, IsLostSince, PassedElsewhere}
 use Rattle.savi_history.specs.Events.{Event, Frame, Long, Command, Tick, Drain, End, row_of}
 use Rattle.savi_history.specs.Legal.{IsLegal, MayCome, Stands}
+use Rattle.savi_history.proofs.FrameVlans.{own_of_frame}
 use Rattle.savi_history.proofs.Starting.{empty_within}
 use Rattle.savi_history.proofs.Telling.{is_frame, port_in, risen, told_rightly, next_told}
 use Rattle.savi_segments.specs.Segments.{base_after, joined, AreOctets, AreLegal}
@@ -205,23 +207,23 @@ module _ (limits : LeaveLimits) (plan : Plan) (valid : IsValidPlan plan) where
       (judged_alike plan valid empty starts (joined before) (is_first before) (within_mid segment before legal) segment (legal_mid segment before legal) legal.1 q stamp octets known))
 
   -- a frame that passes does so at a port that isn't shut
-  unshut : (shut : Bool) (told : List Mark) (port : Port) (t : ℕ) (class : Class) → IsPass (Some (judged_after plan empty shut told port t class).verdict) → IsPass (Some (judged r start the_vlan port t told class).verdict)
-  unshut false told port t class pass = pass
-  unshut true told port t class pass = absurd pass
+  unshut : (shut : Bool) (told : List Mark) (port : Port) (t vlan : ℕ) (class : Class) → IsPass (Some (judged_after plan empty shut told port t (Some vlan) class).verdict) → IsPass (Some (judged r start vlan port t told class).verdict)
+  unshut false told port t vlan class pass = pass
+  unshut true told port t vlan class pass = absurd pass
 
-  pub kept_first : (first : List (List Row)) (steps : List Step) → plan.savi ≡ true → AreLegal plan (gone first steps) → (p q : Port) (stamp : ℕ) (octets : List ℕ) (eth : Eth) (ip : Ip) (read : Read)
-      → has_port plan (number_of q) ≡ true → role_of plan (number_of q) ≢ roles.Trusted → class_of octets ≡ Ip6 eth ip read
-      → IsLiveAtEnd plan empty (joined first) ip.src.0 p → ¬ Same q p
+  pub kept_first : (first : List (List Row)) (steps : List Step) → plan.savi ≡ true → AreLegal plan (gone first steps) → (p q : Port) (stamp : ℕ) (octets : List ℕ) (vlan : ℕ) (eth : Eth) (ip : Ip) (read : Read)
+      → has_port plan (number_of q) ≡ true → vlan_of_frame plan (number_of q) octets ≡ Some vlan → role_of plan (number_of q) ≢ roles.Trusted → class_of (inner octets) ≡ Ip6 eth ip read
+      → IsLiveAtEnd plan empty (joined first) vlan ip.src.0 p → ¬ Same q p
       → IsPass (Some (verdict_of plan (newest_base plan (gone first steps)) (newest_rows (gone first steps)) q stamp octets))
-      → IsLostSince plan empty (joined first) (rows_in steps) (moment_at empty (joined (gone first steps)) stamp) ip.src.0 p
-  kept_first first steps on legal p q stamp octets eth ip read known host class_is live apart passed = by_method (r.addresses.method_of the_vlan ip.src.0) refl
+      → IsLostSince plan empty (joined first) (rows_in steps) (moment_at empty (joined (gone first steps)) stamp) vlan ip.src.0 p
+  kept_first first steps on legal p q stamp octets vlan eth ip read known vlan_is host class_is live apart passed = by_method (r.addresses.method_of vlan ip.src.0) refl
     where
-      by_method : (method : Option Method) → r.addresses.method_of the_vlan ip.src.0 ≡ method → IsLostSince plan empty (joined first) (rows_in steps) (moment_at empty (joined (gone first steps)) stamp) ip.src.0 p
+      by_method : (method : Option Method) → r.addresses.method_of vlan ip.src.0 ≡ method → IsLostSince plan empty (joined first) (rows_in steps) (moment_at empty (joined (gone first steps)) stamp) vlan ip.src.0 p
       by_method None none =
           let more : IsBehind first steps = behind first steps legal in
           let told_first : IsTold plan empty (joined first) = joined_told first more.first_legal in
-          absurd (off_link r start starts.access the_vlan p (last_moment empty (joined first)) (joined_soon first more.first_legal) (marks plan empty (joined first)) told_first.right told_first.last ip.src.0 none
-          ((lives_at (state_at r.addresses start.addresses (told (marks plan empty (joined first))) (last_moment empty (joined first)) the_vlan ip.src.0) p).1 live))
+          absurd (off_link r start starts.access vlan p (last_moment empty (joined first)) (joined_soon first more.first_legal) (marks plan empty (joined first)) told_first.right told_first.last ip.src.0 none
+          ((lives_at (state_at r.addresses start.addresses (told (marks plan empty (joined first))) (last_moment empty (joined first)) vlan ip.src.0) p).1 live))
       by_method (Some m) found =
           let more : IsBehind first steps = behind first steps legal in
           let early : List Mark = marks plan empty (joined first) in
@@ -235,17 +237,19 @@ module _ (limits : LeaveLimits) (plan : Plan) (valid : IsValidPlan plan) where
           subst (λ (l : List Mark). newest_moment start l ≤ moment_at empty (joined (gone first steps)) stamp) more.is (omega (arith, told_all.last)) in
           let passed_whole : IsPass (Some (verdict_of plan empty (joined (gone first steps)) q stamp octets)) =
           subst (λ v. IsPass (Some v)) (same_verdict (gone first steps) legal q stamp octets known) passed in
-          let passed_so : IsPass (Some (judged r start the_vlan q t (more.new ++ early) (Ip6 eth ip read)).verdict) =
-          subst (λ (l : List Mark). IsPass (Some (judged r start the_vlan q t l (Ip6 eth ip read)).verdict)) more.is
-          (subst (λ (c : Class). IsPass (Some (judged r start the_vlan q t (marks plan empty (joined (gone first steps))) c).verdict)) class_is
-          (unshut (is_shut plan empty (number_of q) (joined (gone first steps))) (marks plan empty (joined (gone first steps))) q t (class_of octets) passed_whole)) in
+          let passed_there : IsPass (Some (judged_after plan empty (is_shut plan empty (number_of q) (joined (gone first steps))) (marks plan empty (joined (gone first steps))) q t (Some vlan) (class_of (inner octets))).verdict) =
+          subst (λ (o : Option ℕ). IsPass (Some (judged_after plan empty (is_shut plan empty (number_of q) (joined (gone first steps))) (marks plan empty (joined (gone first steps))) q t o (class_of (inner octets))).verdict)) vlan_is passed_whole in
+          let passed_so : IsPass (Some (judged r start vlan q t (more.new ++ early) (Ip6 eth ip read)).verdict) =
+          subst (λ (l : List Mark). IsPass (Some (judged r start vlan q t l (Ip6 eth ip read)).verdict)) more.is
+          (subst (λ (c : Class). IsPass (Some (judged r start vlan q t (marks plan empty (joined (gone first steps))) c).verdict)) class_is
+          (unshut (is_shut plan empty (number_of q) (joined (gone first steps))) (marks plan empty (joined (gone first steps))) q t vlan (class_of (inner octets)) passed_there)) in
           record {
             method = m;
             on_link = found;
             new = more.new;
             told_so = ap (λ (l : List Row). marks plan empty l) (sym more.rows) ∙ more.is;
             lost =
-                keeps_first r start starts.access the_vlan q t soon more.new early right after_all (own_ports plan (number_of q) known host) on (unspecified_off_link plan valid) host eth ip read m found
+                keeps_first r start starts.access vlan q t soon more.new early right after_all (own_of_frame plan valid (number_of q) vlan octets vlan_is known host) on (unspecified_off_link plan valid vlan) host eth ip read m found
                 0 (last_moment empty (joined first)) (turns r start early (last_moment empty (joined first)) told_first.right told_first.last)
                 (turn_later (last_moment empty (joined first)) last t (told more.new) (omega arith) more.turn) p live apart passed_so;
           }
@@ -272,39 +276,40 @@ module _ (limits : LeaveLimits) (plan : Plan) (valid : IsValidPlan plan) where
     now = gone first between
 
     -- a packet whose source is read is one of IPv6
-    source_read : (p q : Port) (stamp a : ℕ) (octets : List ℕ) → has_port plan (number_of q) ≡ true → role_of plan (number_of q) ≢ roles.Trusted → IsLiveAtEnd plan empty (joined first) a p → ¬ Same q p
-        → IsPass (Some (verdict_of plan (newest_base plan now) (newest_rows now) q stamp octets)) → (c : Class) → class_of octets ≡ c → IsFrom a c
-        → IsLostSince plan empty (joined first) (rows_in between) (moment_at (newest_base plan now) (newest_rows now) stamp) a p
-    source_read p q stamp a octets known host live apart passed (Ip6 eth ip read) is from =
-        subst (λ (t : ℕ). IsLostSince plan empty (joined first) (rows_in between) t a p) (sym (same_moment now legal stamp))
-        (subst (λ (n : ℕ). IsLostSince plan empty (joined first) (rows_in between) (moment_at empty (joined now) stamp) n p) from
-        (kept_first first between on legal p q stamp octets eth ip read known host is (subst (λ (n : ℕ). IsLiveAtEnd plan empty (joined first) n p) (sym from) live) apart passed))
-    source_read p q stamp a octets known host live apart passed Runt is from = absurd from
-    source_read p q stamp a octets known host live apart passed (Tagged eth) is from = absurd from
-    source_read p q stamp a octets known host live apart passed (Other eth) is from = absurd from
-    source_read p q stamp a octets known host live apart passed (BadIp eth) is from = absurd from
+    source_read : (p q : Port) (stamp vlan a : ℕ) (octets : List ℕ) → has_port plan (number_of q) ≡ true → vlan_of_frame plan (number_of q) octets ≡ Some vlan → role_of plan (number_of q) ≢ roles.Trusted → IsLiveAtEnd plan empty (joined first) vlan a p → ¬ Same q p
+        → IsPass (Some (verdict_of plan (newest_base plan now) (newest_rows now) q stamp octets)) → (c : Class) → class_of (inner octets) ≡ c → IsFrom a c
+        → IsLostSince plan empty (joined first) (rows_in between) (moment_at (newest_base plan now) (newest_rows now) stamp) vlan a p
+    source_read p q stamp vlan a octets known vlan_is host live apart passed (Ip6 eth ip read) is from =
+        subst (λ (t : ℕ). IsLostSince plan empty (joined first) (rows_in between) t vlan a p) (sym (same_moment now legal stamp))
+        (subst (λ (n : ℕ). IsLostSince plan empty (joined first) (rows_in between) (moment_at empty (joined now) stamp) vlan n p) from
+        (kept_first first between on legal p q stamp octets vlan eth ip read known vlan_is host is (subst (λ (n : ℕ). IsLiveAtEnd plan empty (joined first) vlan n p) (sym from) live) apart passed))
+    source_read p q stamp vlan a octets known vlan_is host live apart passed Runt is from = absurd from
+    source_read p q stamp vlan a octets known vlan_is host live apart passed (Tagged eth) is from = absurd from
+    source_read p q stamp vlan a octets known vlan_is host live apart passed (Other eth) is from = absurd from
+    source_read p q stamp vlan a octets known vlan_is host live apart passed (BadIp eth) is from = absurd from
 
-    event_keeps : (event : Event) (a : ℕ) (port : Port) → MayCome plan (newest_base plan now) (newest_rows now) event → IsLiveAtEnd plan empty (joined first) a port
-        → PassedElsewhere plan (row_of plan (newest_base plan now) (newest_rows now) event) a port
-        → IsLostSince plan empty (joined first) (rows_in between) (row_of plan (newest_base plan now) (newest_rows now) event).entry.moment a port
-    event_keeps (Frame q stamp octets) a port may live passed =
+    event_keeps : (event : Event) (vlan a : ℕ) (port : Port) → MayCome plan (newest_base plan now) (newest_rows now) event → IsLiveAtEnd plan empty (joined first) vlan a port
+        → PassedElsewhere plan (row_of plan (newest_base plan now) (newest_rows now) event) vlan a port
+        → IsLostSince plan empty (joined first) (rows_in between) (row_of plan (newest_base plan now) (newest_rows now) event).entry.moment vlan a port
+    event_keeps (Frame q stamp octets) vlan a port may live passed =
         let same : q ≡ passed.other = ap (port_in q) passed.frame.frame in
-        source_read port q stamp a octets may.0.open_pass.known (subst (λ (n : Port). role_of plan (number_of n) ≢ roles.Trusted) (sym same) passed.host) live
-        (subst (λ (n : Port). ¬ Same n port) (sym same) passed.apart) passed.passed (class_of octets) refl passed.source
-    event_keeps (Command stamp line) a port may live passed = absurd (false≢true (ap is_frame passed.frame.frame))
-    event_keeps (Long q stamp len) a port may live passed = absurd (false≢true (ap is_frame passed.frame.frame))
-    event_keeps (Tick stamp) a port may live passed = absurd (false≢true (ap is_frame passed.frame.frame))
-    event_keeps (Drain q count) a port may live passed = absurd (false≢true (ap is_frame passed.frame.frame))
-    event_keeps (End who how) a port may live passed = absurd (false≢true (ap is_frame passed.frame.frame))
+        source_read port q stamp vlan a octets may.0.open_pass.known (subst (λ (n : Port). vlan_of_frame plan (number_of n) octets ≡ Some vlan) (sym same) passed.vlan_is)
+        (subst (λ (n : Port). role_of plan (number_of n) ≢ roles.Trusted) (sym same) passed.host) live
+        (subst (λ (n : Port). ¬ Same n port) (sym same) passed.apart) passed.passed (class_of (inner octets)) refl passed.source
+    event_keeps (Command stamp line) vlan a port may live passed = absurd (false≢true (ap is_frame passed.frame.frame))
+    event_keeps (Long q stamp len) vlan a port may live passed = absurd (false≢true (ap is_frame passed.frame.frame))
+    event_keeps (Tick stamp) vlan a port may live passed = absurd (false≢true (ap is_frame passed.frame.frame))
+    event_keeps (Drain q count) vlan a port may live passed = absurd (false≢true (ap is_frame passed.frame.frame))
+    event_keeps (End who how) vlan a port may live passed = absurd (false≢true (ap is_frame passed.frame.frame))
 
   -- each row of segments keeps who came first in any of them
   pub all_keep : (segments : List (List Row)) → plan.savi ≡ true → AreLegal plan segments → SegmentsKeepWhoCameFirst plan segments
-  all_keep segments on legal first between later r a port split live passed =
+  all_keep segments on legal first between later r vlan a port split live passed =
       let at : AreLegal plan (with_row r (gone first between)) = legal_front first later (Enters r ∷ between) (subst (AreLegal plan) split legal) in
       let rest : AreLegal plan (gone first between) = (fronted r (gone first between) at).legal in
       let stands = newest_stands r (gone first between) at in
-      subst (λ (x : Row). IsLostSince plan empty (joined first) (rows_in between) x.entry.moment a port) (sym stands.2)
-      (event_keeps first between on rest stands.0 a port stands.1 live (subst (λ (x : Row). PassedElsewhere plan x a port) stands.2 passed))
+      subst (λ (x : Row). IsLostSince plan empty (joined first) (rows_in between) x.entry.moment vlan a port) (sym stands.2)
+      (event_keeps first between on rest stands.0 vlan a port stands.1 live (subst (λ (x : Row). PassedElsewhere plan x vlan a port) stands.2 passed))
 
   -- in each segment what passed had access
   pub all_right : ((base : Base) (past : List Row) → IsWithinLimits plan base → IsLegal plan base past → AreOctets past → AllPassedRightly plan base past)

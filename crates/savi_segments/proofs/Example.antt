@@ -7,6 +7,7 @@ use Rattle.savi_kinds.specs.declared.verdict.Scope.TheVariants as scopes
 use Rattle.savi_kinds.specs.declared.entry.Act.TheVariants as acts
 use Rattle.savi_kinds.specs.declared.entry.Who.TheVariants as passes
 use Rattle.savi_kinds.specs.declared.entry.How.TheVariants as hows
+use Rattle.eth_frame.specs.Tags.{tag_of}
 use Rattle.v6_chain.specs.Kinds.{kind_of}
 use Rattle.nd_read.specs.Messages.{named}
 use Rattle.nd_read.specs.NdOf.{nd_of, passes as message_passes}
@@ -35,15 +36,15 @@ pub two_captures : replayed plan None inputs no_failure ≡ (
     ∷ frame 0 1000 (acts.Frame port_one 1000 0 70) (verdicts.Drop rules.RouterAdvert) 0 advert
     ∷ other 2 0 (acts.End passes.Control hows.End)
     ∷ []) ∷ []
-unfolding class_of nd_of named message_passes kind_of guard_of judged offers probes lost
+unfolding tag_of class_of nd_of named message_passes kind_of guard_of judged offers probes lost
 two_captures = refl
 
 pub summed_up : summary_of (joined (replayed plan None inputs no_failure)) ≡ record { entries = 11; frames = 3; passed = 2; dropped = 1; probes = 0; lost = 0; cut = 0 }
-unfolding class_of nd_of named message_passes kind_of guard_of judged lib.Count.ones offers probes lost
+unfolding tag_of class_of nd_of named message_passes kind_of guard_of judged lib.Count.ones offers probes lost
 summed_up = refl
 
 pub sent_at_two : sent_in plan 2 (replayed plan None inputs no_failure) ≡ record { moment = 1001; octets = packet } ∷ []
-unfolding class_of nd_of named message_passes kind_of guard_of judged offers
+unfolding tag_of class_of nd_of named message_passes kind_of guard_of judged offers
 sent_at_two = refl
 
 -- the record of the packet isn't written, and the header is
@@ -63,7 +64,7 @@ pub an_output_fails : replayed plan None inputs second_fails ≡ (
     ∷ frame 0 1000 (acts.Frame port_one 1000 0 70) (verdicts.Drop rules.RouterAdvert) 0 advert
     ∷ other 2 0 (acts.End passes.Control hows.End)
     ∷ []) ∷ []
-unfolding class_of nd_of named message_passes kind_of guard_of judged offers probes lost
+unfolding tag_of class_of nd_of named message_passes kind_of guard_of judged offers probes lost
 an_output_fails = refl
 
 -- room for two entries in each segment
@@ -94,5 +95,5 @@ pub three_segments : replayed small None inputs no_failure ≡ (
     ∷ frame 0 1000 (acts.Frame port_one 1000 0 70) (verdicts.Drop rules.RouterAdvert) 0 advert
     ∷ other 2 0 (acts.End passes.Control hows.End)
     ∷ []) ∷ []
-unfolding class_of nd_of named message_passes kind_of guard_of judged offers probes lost
+unfolding tag_of class_of nd_of named message_passes kind_of guard_of judged offers probes lost
 three_segments = refl

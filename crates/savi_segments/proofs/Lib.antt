@@ -1,4 +1,6 @@
 pub mod Passing
+pub mod Ascending
+pub mod MergedLengths
 pub mod Behind
 pub mod MarksJoined
 pub mod Elsewhere

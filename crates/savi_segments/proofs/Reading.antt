@@ -1,22 +1,28 @@
 -- A history that goes on from what earlier rows left reads as it does behind them. The earlier rows needn't be legal.
-use Rattle.std.proofs.Common.{◌≡◌, ℕ, ◌^◌, min, max, ◌<◌, ◌≤◌, ◌&&◌, not, Bool, true, false, Option, Some, None, Result, Ok, Err, List, [], ◌∷◌, ◌++◌, filter, refl, sym, ap, ◌∙◌, subst, arith}
+use Rattle.std.proofs.Common.{◌≡◌, ℕ, ◌^◌, min, max, ◌<◌, ◌≤◌, ◌&&◌, not, Bool, true, false, Option, Some, None, Result, Ok, Err, List, [], ◌∷◌, ◌++◌, map, filter, refl, sym, ap, ◌∙◌, subst, arith}
+use Rattle.std.proofs.Math.Path.{fun_ext}
 use Rattle.std.proofs.lemmas.List.Elements.{All-tail, All-filter}
 use Rattle.hex.specs.Hex.{IsBytes}
 use Rattle.savi_kinds.specs.declared.plan.Plan.{Plan}
 use Rattle.savi_kinds.specs.declared.port.Port.{Port}
 use Rattle.savi_kinds.specs.declared.port.PortSet.{PortSet}
 use Rattle.savi_kinds.specs.declared.entry.How.{How}
+use Rattle.savi_kinds.specs.declared.plan.Role.TheVariants.{Trusted}
+use Rattle.savi_kinds.specs.declared.verdict.Rule.{Rule}
 use Rattle.savi_kinds.specs.declared.verdict.Verdict.{Verdict}
 use Rattle.savi_kinds.specs.Ports.{number_of}
 use Rattle.savi_kinds.specs.PortSets.{is_member, set_of}
 use Rattle.savi_kinds.specs.Orders.{AreInTurn}
+use Rattle.savi_kinds.specs.Vlans.{access_vlan, vlans_of}
 use Rattle.savi_kinds.specs.ValidPlan.{IsValidPlan, numbers_of}
 use Rattle.cli_lang.specs.declared.kinds.Command.{Command as Order}
 use Rattle.cli_lang.specs.declared.kinds.Command.TheVariants as orders
 use Rattle.cli_lang.specs.declared.kinds.CmdFault.{CmdFault}
 use Rattle.cli_lang.specs.CommandOf.{command_of}
+use Rattle.eth_frame.specs.Tags.{inner}
 use Rattle.frame_class.specs.declared.classes.Class.{Class}
 use Rattle.frame_class.specs.ClassOf.{class_of}
+use Rattle.ra_guard.specs.GuardOf.{guard_of}
 use Rattle.fcfs_states.specs.Premises.{AreTimes}
 use Rattle.fcfs_states.specs.declared.event.Ev.{Ev}
 use Rattle.fcfs_states.specs.declared.event.Ev.TheVariants.{Fix, Clear}
@@ -27,6 +33,7 @@ use Rattle.control_replies.specs.declared.counts.Counts.{Counts}
 use Rattle.control_replies.specs.declared.refusal.Refusal.{Refusal}
 use Rattle.savi_access.specs.declared.row.Row.{Row as AddressRow}
 use Rattle.savi_access.specs.Bases.{AreTables}
+use Rattle.savi_access.specs.declared.sent.SentProbe.{SentProbe}
 use Rattle.savi_access.specs.NamedMarks.{Named, named_moment}
 use Rattle.savi_access.specs.States.{state_at}
 use Rattle.savi_access.specs.Sends.{sends}
@@ -39,18 +46,19 @@ use Rattle.savi_access.specs.Plans.{rules_of}
 use Rattle.savi_access.proofs.AllSends.{sends-late}
 use Rattle.savi_access.proofs.StatesKept.{base_times, base_tables}
 use Rattle.checkpoint.specs.Bases.{Base, access_of}
-use Rattle.savi_history.specs.Vlans.{the_vlan}
+use Rattle.savi_history.specs.Vlans.{vlan_of_frame}
 use Rattle.savi_history.specs.Passes.{has_port, pass_count}
 use Rattle.savi_history.specs.ShutPorts.{shut_after, is_shut}
 use Rattle.savi_history.specs.Moments.{last_moment, moment_at}
-use Rattle.savi_history.specs.Commands.{rows_told, refusal_of, ordered, ordered_unless, commanded}
-use Rattle.savi_history.specs.Marks.{marks, judged_after}
+use Rattle.savi_history.specs.Commands.{rows_told, refusal_of, fixed_in, ordered, ordered_unless, commanded}
+use Rattle.savi_history.specs.Marks.{marks, judged_after, untold}
 use Rattle.savi_history.specs.Judged.{judged_of, verdict_of}
 use Rattle.savi_history.specs.Stations.{stations, after_entry, port_among, ethernet_of}
 use Rattle.savi_history.specs.Outs.{outs, outs_by, without_shut}
 use Rattle.control_replies.specs.Counting.{counted_with}
 use Rattle.savi_history.specs.Shown.{counts_of}
-use Rattle.savi_history.specs.Offers.{due_by}
+use Rattle.savi_history.specs.Offers.{Offer, offer_of, due_by, due_in}
+use Rattle.savi_history.specs.Merges.{merged}
 use Rattle.savi_history.specs.Limits.{IsWithinLimits}
 use Rattle.savi_history.specs.Accesses.{IsTold}
 use Rattle.savi_history.specs.Events.{Event, Frame, Long, Command, Tick, Drain, End, row_of, outs_of}
@@ -63,7 +71,7 @@ use Rattle.savi_segments.specs.Segments.{AreOctets}
 use Rattle.savi_segments.specs.Readings.{with_behind, ReadsAs}
 use Rattle.savi_segments.proofs.Passing.{in_filtered, same_filtered, below_in, in_below, all_in, all_below, in_ends, same_ends, all_ends}
 use Rattle.savi_segments.proofs.MarksJoined.{turns}
-use Rattle.savi_segments.proofs.Elsewhere.{after_bare}
+use Rattle.savi_segments.proofs.Elsewhere.{after_elsewhere}
 use Rattle.savi_segments.proofs.Behind.{rows_cut, states_cut, requests_cut, named_cut, judged_cut}
 
 -- a base at the start of a switch or not
@@ -112,24 +120,33 @@ module _ (plan : Plan) (valid : IsValidPlan plan) (base : Base) (within : IsWith
   counts_cut [] = refl
   counts_cut (row ∷ late) = ap (λ (counts : Counts). counted_with row.entry counts) (counts_cut late)
 
-  pub stations_cut : (late : List Row) (vlan : ℕ) → stations vlan base (late ++ first) ≡ stations vlan mid late
+  pub stations_cut : (late : List Row) (vlan : ℕ) → stations vlan plan base (late ++ first) ≡ stations vlan plan mid late
   stations_cut [] vlan = refl
-  stations_cut (row ∷ late) vlan = ap (λ (known : List Station). after_entry vlan row row.entry.act (live_at row.entry.moment known)) (stations_cut late vlan)
+  stations_cut (row ∷ late) vlan = ap (λ (known : List Station). after_entry vlan plan row row.entry.act (live_at row.entry.moment known)) (stations_cut late vlan)
 
-  -- a frame is judged from the turn as it is behind it, at a port that is shut or not
-  frame_cut : (shut : Bool) (late : List Mark) (port : Port) (t : ℕ) (class : Class) → InTurn t late
-      → judged_after plan base shut (late ++ before) port t class ≡ with_behind before (judged_after plan mid shut late port t class)
-  frame_cut true late port t class so = refl
-  frame_cut false late port t class so = judged_cut r start tables times before turn the_vlan t port late so class
+  -- a frame is judged from the turn as it is behind it, at a port that is shut or not, in a VLAN or in none
+  frame_cut : (shut : Bool) (late : List Mark) (port : Port) (t : ℕ) (vlan : Option ℕ) (class : Class) → InTurn t late
+      → judged_after plan base shut (late ++ before) port t vlan class ≡ with_behind before (judged_after plan mid shut late port t vlan class)
+  frame_cut true late port t vlan class so = refl
+  frame_cut false late port t (Some vlan) class so = judged_cut r start tables times before turn vlan t port late so class
+  frame_cut false late port t None class so = untold_cut (guard_of Trusted plan.drop_unknown class)
+    where
+      untold_cut : (rule : Option Rule) → untold (late ++ before) rule ≡ with_behind before (untold late rule)
+      untold_cut (Some rule) = refl
+      untold_cut None = refl
 
-  mark_cut : (late : List Mark) (t : ℕ) → InTurn t late → (a : ℕ) (event : Ev)
-      → Told (named_for r start the_vlan t (late ++ before) a event) ∷ (late ++ before) ≡ Told (named_for r (access_of mid) the_vlan t late a event) ∷ (late ++ before)
-  mark_cut late t so a event = ap (λ (named : Named). Told named ∷ (late ++ before)) (named_cut r start tables times before turn the_vlan t late so a event)
+  mark_cut : (vlan : ℕ) (late : List Mark) (t : ℕ) → InTurn t late → (a : ℕ) (event : Ev)
+      → Told (named_for r start vlan t (late ++ before) a event) ∷ (late ++ before) ≡ Told (named_for r (access_of mid) vlan t late a event) ∷ (late ++ before)
+  mark_cut vlan late t so a event = ap (λ (named : Named). Told named ∷ (late ++ before)) (named_cut r start tables times before turn vlan t late so a event)
+
+  fixed_cut : (own : Option ℕ) (late : List Mark) (t : ℕ) → InTurn t late → (a : ℕ) (port : Port) → fixed_in plan start t own a port (late ++ before) ≡ fixed_in plan (access_of mid) t own a port late ++ before
+  fixed_cut (Some vlan) late t so a port = mark_cut vlan late t so a (Fix port)
+  fixed_cut None late t so a port = refl
 
   ordered_cut : (late : List Mark) (t : ℕ) → InTurn t late → (order : Result Order CmdFault) → ordered plan start t order (late ++ before) ≡ ordered plan (access_of mid) t order late ++ before
   ordered_cut late t so (Err fault) = refl
-  ordered_cut late t so (Ok (orders.Static address port)) = mark_cut late t so address.0 (Fix port)
-  ordered_cut late t so (Ok (orders.Clear address)) = mark_cut late t so address.0 Clear
+  ordered_cut late t so (Ok (orders.Static address port)) = fixed_cut (access_vlan plan (number_of port)) late t so address.0 port
+  ordered_cut late t so (Ok (orders.Clear vlan address)) = mark_cut vlan late t so address.0 Clear
   ordered_cut late t so (Ok (orders.Shut port)) = refl
   ordered_cut late t so (Ok (orders.Reopen port)) = refl
   ordered_cut late t so (Ok orders.ShowBindings) = refl
@@ -145,7 +162,7 @@ module _ (plan : Plan) (valid : IsValidPlan plan) (base : Base) (within : IsWith
   -- so is a line
   line_cut : (late : List Mark) (t : ℕ) → InTurn t late → (order : Result Order CmdFault) → commanded plan start t order (late ++ before) ≡ commanded plan (access_of mid) t order late ++ before
   line_cut late t so order =
-      ap (λ (rows : List AddressRow). ordered_unless plan start t order (refusal_of plan rows order) (late ++ before)) (rows_cut r start tables times before turn late t the_vlan so)
+      ap (λ (rows : ℕ → List AddressRow). ordered_unless plan start t order (refusal_of plan rows order) (late ++ before)) (fun_ext (λ vlan. rows_cut r start tables times before turn late t vlan so))
       ∙ unless_cut late t so order (refusal_of plan (rows_told plan (access_of mid) late t) order)
 
   -- what is told behind the turn is in turn
@@ -160,9 +177,11 @@ module _ (plan : Plan) (valid : IsValidPlan plan) (base : Base) (within : IsWith
   event_tells : (late : List Row) (event : Event) → IsLegal plan mid late → AreOctets late → MayCome plan mid late event → Tells late → Tells (row_of plan mid late event ∷ late)
   event_tells late (Frame port stamp octets) legal bytes may same =
       let t : ℕ = moment_at mid late stamp in
-      ap (λ (b : Bool). (judged_after plan base b (marks plan base (late ++ first)) port t (class_of octets)).marks) (shut_cut late (number_of port) may.0.open_pass.known)
-      ∙ ap (λ (l : List Mark). (judged_after plan base (is_shut plan mid (number_of port) late) l port t (class_of octets)).marks) same
-      ∙ ap (λ (j : Judged). j.marks) (frame_cut (is_shut plan mid (number_of port) late) (marks plan mid late) port t (class_of octets) (late_turn late t legal bytes (omega arith)))
+      let vlan : Option ℕ = vlan_of_frame plan (number_of port) octets in
+      let class : Class = class_of (inner octets) in
+      ap (λ (b : Bool). (judged_after plan base b (marks plan base (late ++ first)) port t vlan class).marks) (shut_cut late (number_of port) may.0.open_pass.known)
+      ∙ ap (λ (l : List Mark). (judged_after plan base (is_shut plan mid (number_of port) late) l port t vlan class).marks) same
+      ∙ ap (λ (j : Judged). j.marks) (frame_cut (is_shut plan mid (number_of port) late) (marks plan mid late) port t vlan class (late_turn late t legal bytes (omega arith)))
   event_tells late (Command stamp line) legal bytes may same =
       let t : ℕ = moment_at mid late stamp in
       ap (λ (l : List Mark). commanded plan start t (command_of line) l) same
@@ -216,10 +235,12 @@ module _ (plan : Plan) (valid : IsValidPlan plan) (base : Base) (within : IsWith
     judged_alike port stamp octets known =
         let t : ℕ = moment_at mid late stamp in
         let shut : Bool = is_shut plan mid (number_of port) late in
-        ap (λ (m : ℕ). judged_after plan base (is_shut plan base (number_of port) (late ++ first)) (marks plan base (late ++ first)) port (max m (min stamp (2 ^ 62))) (class_of octets)) (moment_cut late)
-        ∙ ap (λ (b : Bool). judged_after plan base b (marks plan base (late ++ first)) port t (class_of octets)) (shut_cut late (number_of port) known)
-        ∙ ap (λ (l : List Mark). judged_after plan base shut l port t (class_of octets)) tells
-        ∙ frame_cut shut (marks plan mid late) port t (class_of octets) (so t (moment_later stamp))
+        let vlan : Option ℕ = vlan_of_frame plan (number_of port) octets in
+        let class : Class = class_of (inner octets) in
+        ap (λ (m : ℕ). judged_after plan base (is_shut plan base (number_of port) (late ++ first)) (marks plan base (late ++ first)) port (max m (min stamp (2 ^ 62))) vlan class) (moment_cut late)
+        ∙ ap (λ (b : Bool). judged_after plan base b (marks plan base (late ++ first)) port t vlan class) (shut_cut late (number_of port) known)
+        ∙ ap (λ (l : List Mark). judged_after plan base shut l port t vlan class) tells
+        ∙ frame_cut shut (marks plan mid late) port t vlan class (so t (moment_later stamp))
 
     without_alike : (set : PortSet) → without_shut plan base (late ++ first) set ≡ without_shut plan mid late set
     without_alike set =
@@ -227,23 +248,33 @@ module _ (plan : Plan) (valid : IsValidPlan plan) (base : Base) (within : IsWith
         (same_filtered (λ q. is_member set q && not (is_shut plan base q (late ++ first))) (λ q. is_member set q && not (is_shut plan mid q late)) (numbers_of plan.ports)
         (λ q known. ap (λ (b : Bool). is_member set q && not b) (shut_cut late q known)))
 
+    -- the ports to which a frame goes by the stations of its VLAN
+    directed_alike : (vlan : Option ℕ) (n t : ℕ) (octets : List ℕ) (verdict : Verdict) → outs vlan plan base (late ++ first) n t octets verdict ≡ outs vlan plan mid late n t octets verdict
+    directed_alike (Some vlan) n t octets verdict =
+        ap (λ (l : List Station). without_shut plan base (late ++ first) (outs_by vlan plan n (port_among (live_at t l) (ethernet_of (inner octets))) verdict)) (stations_cut late vlan)
+        ∙ without_alike (outs_by vlan plan n (port_among (live_at t (stations vlan plan mid late)) (ethernet_of (inner octets))) verdict)
+    directed_alike None n t octets verdict = refl
+
     outs_alike : (port : Port) (stamp : ℕ) (octets : List ℕ) → has_port plan (number_of port) ≡ true → outs_of plan base (late ++ first) port stamp octets ≡ outs_of plan mid late port stamp octets
     outs_alike port stamp octets known =
-        let t : ℕ = moment_at mid late stamp in
         let n : ℕ = number_of port in
+        let vlan : Option ℕ = vlan_of_frame plan n octets in
         let verdict : Verdict = verdict_of plan mid late port stamp octets in
-        ap (λ (j : Judged). outs the_vlan plan base (late ++ first) n (moment_at base (late ++ first) stamp) octets j.verdict) (judged_alike port stamp octets known)
-        ∙ ap (λ (m : ℕ). outs the_vlan plan base (late ++ first) n (max m (min stamp (2 ^ 62))) octets verdict) (moment_cut late)
-        ∙ ap (λ (l : List Station). without_shut plan base (late ++ first) (outs_by plan n (port_among (live_at t l) (ethernet_of octets)) verdict)) (stations_cut late the_vlan)
-        ∙ without_alike (outs_by plan n (port_among (live_at t (stations the_vlan mid late)) (ethernet_of octets)) verdict)
+        ap (λ (j : Judged). outs vlan plan base (late ++ first) n (moment_at base (late ++ first) stamp) octets j.verdict) (judged_alike port stamp octets known)
+        ∙ ap (λ (m : ℕ). outs vlan plan base (late ++ first) n (max m (min stamp (2 ^ 62))) octets verdict) (moment_cut late)
+        ∙ directed_alike vlan n (moment_at mid late stamp) octets verdict
+
+    due_in_alike : (t vlan : ℕ) → last_moment mid late ≤ t → due_in plan base (late ++ first) t vlan ≡ due_in plan mid late t vlan
+    due_in_alike t vlan later =
+        let from : ℕ = last_moment mid late in
+        ap (λ (m : ℕ). probes_between r.addresses start.addresses (told (marks plan base (late ++ first))) m t vlan) (moment_cut late)
+        ∙ sends-late r.addresses.times times from t (rows_after r.addresses start.addresses (told (marks plan base (late ++ first))) vlan) later
+        ∙ ap (λ (rows : List AddressRow). sends r.addresses.times t rows) (rows_alike from vlan (omega arith))
+        ∙ sym (sends-late r.addresses.times times from t (rows_after r.addresses (access_of mid).addresses (told (marks plan mid late)) vlan) later)
 
     due_alike : (t : ℕ) → last_moment mid late ≤ t → due_by plan base (late ++ first) t ≡ due_by plan mid late t
     due_alike t later =
-        let from : ℕ = last_moment mid late in
-        ap (λ (m : ℕ). probes_between r.addresses start.addresses (told (marks plan base (late ++ first))) m t the_vlan) (moment_cut late)
-        ∙ sends-late r.addresses.times times from t (rows_after r.addresses start.addresses (told (marks plan base (late ++ first))) the_vlan) later
-        ∙ ap (λ (rows : List AddressRow). sends r.addresses.times t rows) (rows_alike from the_vlan (omega arith))
-        ∙ sym (sends-late r.addresses.times times from t (rows_after r.addresses (access_of mid).addresses (told (marks plan mid late)) the_vlan) later)
+        ap (λ (due : ℕ → List SentProbe). merged (λ (offer : Offer). offer.due) (map (λ vlan. map (offer_of vlan) (due vlan)) (vlans_of plan))) (fun_ext (λ vlan. due_in_alike t vlan later))
 
     pub reads_as : ReadsAs plan base first mid late
     reads_as = record {
@@ -312,5 +343,5 @@ after_within limits plan valid base within past legal bytes = record {
   stations = λ vlan. stations_stay plan base past vlan within legal;
   access = limits plan base past valid within legal bytes;
   counts = counts_stay base past within.counts;
-  elsewhere = λ vlan other. after_bare plan base vlan other (within.elsewhere vlan other) past;
+  elsewhere = after_elsewhere plan base within.elsewhere past;
 }

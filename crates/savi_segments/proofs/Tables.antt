@@ -21,8 +21,8 @@ table_goes_on limits r base past t kept early is = record {
   last = omega arith;
   rows =
       is.rows
-      ∙ rows-later r.addresses base.addresses (base_tables r.addresses base.addresses is.base_is.addresses) (base_times r.addresses base.addresses is.base_is.addresses) (told past) t t 1 (omega arith);
-  requests = is.requests ∙ sym (open_at-later t t (requests_after base 1 past) (omega arith));
+      ∙ rows-later r.addresses base.addresses (base_tables r.addresses base.addresses is.base_is.addresses) (base_times r.addresses base.addresses is.base_is.addresses) (told past) t t kept.vlan (omega arith);
+  requests = is.requests ∙ sym (open_at-later t t (requests_after base kept.vlan past) (omega arith));
   times = is.times;
   per_port = is.per_port;
 }

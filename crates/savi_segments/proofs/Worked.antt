@@ -3,19 +3,26 @@
 use Rattle.std.proofs.Common.{◌≡◌, ℕ, zero, suc, nat_lt, true, List, [], ◌∷◌, refl, lit≤, None, arith}
 use Rattle.std.specs.List.{list_all}
 use Rattle.std.specs.List.Sorted.{IsStrictlyIncreasing}
-use Rattle.std.proofs.lemmas.Bool.{and_parts, ltb-true}
+use Rattle.std.proofs.lemmas.Bool.{and_parts, ltb-true, false≢true}
 use Rattle.std.proofs.lemmas.List.Elements.{All-nil, All-cons}
 use Rattle.hex.specs.Hex.{IsBytes}
+use Rattle.savi_kinds.specs.declared.port.Port.{Port}
+use Rattle.savi_kinds.specs.declared.plan.Role.{Role}
+use Rattle.savi_kinds.specs.declared.plan.Format.{Format}
 use Rattle.savi_kinds.specs.declared.plan.Plan.{Plan}
+use Rattle.savi_kinds.specs.declared.plan.PrefixPlan.{PrefixPlan}
 use Rattle.savi_kinds.specs.declared.plan.Role.TheVariants as roles
 use Rattle.savi_kinds.specs.declared.plan.Format.TheVariants as formats
+use Rattle.savi_kinds.specs.declared.plan.Vlan.TheVariants.{Access}
 use Rattle.savi_kinds.specs.declared.verdict.Verdict.TheVariants as verdicts
 use Rattle.savi_kinds.specs.declared.verdict.Rule.TheVariants as rules
 use Rattle.savi_kinds.specs.declared.verdict.Scope.TheVariants as scopes
-use Rattle.savi_kinds.specs.ValidPlan.{IsPlanPrefix, IsValidPlan}
+use Rattle.savi_kinds.specs.ValidPlan.{HasPlanVlans, IsPlanPrefix, IsValidPlan}
+use Rattle.savi_kinds.specs.Vlans.{IsVlan}
 use Rattle.v6_chain.specs.Kinds.{kind_of}
 use Rattle.nd_read.specs.Messages.{named}
 use Rattle.nd_read.specs.NdOf.{nd_of, passes as message_passes}
+use Rattle.eth_frame.specs.Tags.{tag_of}
 use Rattle.frame_class.specs.ClassOf.{class_of}
 use Rattle.ra_guard.specs.GuardOf.{guard_of}
 use Rattle.fcfs_states.specs.Aged.{aged, aged_by}
@@ -44,9 +51,18 @@ plan = record {
   life = 300000;
   control = None;
   journal = [];
-  ports = record { number = port_one; role = roles.Host; format = formats.Pcap; input = []; output = [] }
-      ∷ record { number = port_two; role = roles.Host; format = formats.Pcap; input = []; output = [] } ∷ [];
+  ports = record { number = port_one; role = roles.Host; format = formats.Pcap; input = []; output = []; vlan = Access 1 }
+      ∷ record { number = port_two; role = roles.Host; format = formats.Pcap; input = []; output = []; vlan = Access 1 } ∷ [];
   prefixes = [];
+}
+
+-- a port of VLAN 1 alone
+of_one : {number : Port} {role : Role} {format : Format} → HasPlanVlans (record { number = number; role = role; format = format; input = []; output = []; vlan = Access 1 })
+of_one = record {
+  numbers = All-cons IsVlan 1 [] (lit≤ tt, lit≤ tt) (All-nil IsVlan);
+  some = lit≤ tt;
+  rising = λ k inside. absurd (omega (arith, inside));
+  trusted = λ trunk. absurd (false≢true trunk);
 }
 
 pub plan_is_valid : IsValidPlan plan
@@ -62,8 +78,11 @@ plan_is_valid = record {
   life = (300, refl, (lit≤ tt, lit≤ tt));
   port_count = (lit≤ tt, lit≤ tt);
   ports = two_rise;
+  port_vlans = All-cons HasPlanVlans (record { number = port_one; role = roles.Host; format = formats.Pcap; input = []; output = []; vlan = Access 1 }) (record { number = port_two; role = roles.Host; format = formats.Pcap; input = []; output = []; vlan = Access 1 } ∷ []) of_one (All-cons HasPlanVlans (record { number = port_two; role = roles.Host; format = formats.Pcap; input = []; output = []; vlan = Access 1 }) [] of_one (All-nil HasPlanVlans));
+  vlan_count = lit≤ tt;
   prefix_count = lit≤ tt;
   plan_prefixes = All-nil IsPlanPrefix;
+  prefix_vlans = All-nil (λ (p : PrefixPlan). IsVlan p.vlan);
   prefixes = λ i j d lower inside. absurd (omega (arith, inside));
 }
   where
@@ -93,23 +112,23 @@ abbrev pub steps : List Step
 steps = Enters other ∷ Turns ∷ []
 
 -- the address is live at port 1 at the turn
-pub first_is_live : IsLiveAtEnd plan empty (joined first) first_address port_one
-unfolding class_of nd_of named message_passes kind_of guard_of judged aged aged_by
+pub first_is_live : IsLiveAtEnd plan empty (joined first) 1 first_address port_one
+unfolding tag_of class_of nd_of named message_passes kind_of guard_of judged aged aged_by
 first_is_live = refl
 
 -- so a packet from it at port 2 is dropped there, which only what the first segment left can tell
 pub other_is_dropped : verdict_of plan (base_after plan first) [] port_two 2500 packet ≡ verdicts.Drop rules.WrongPort
-unfolding class_of nd_of named message_passes kind_of guard_of judged aged aged_by
+unfolding tag_of class_of nd_of named message_passes kind_of guard_of judged aged aged_by
 other_is_dropped = refl
 
 -- once the first host was silent for longer than a lifetime and a test, the second claims the address, and its next packet
 -- passes: read from the turn and read from the start
 pub other_passes : verdict_of plan (newest_base plan (gone first steps)) (newest_rows (gone first steps)) port_two 401000 packet ≡ verdicts.Pass scopes.All
-unfolding class_of nd_of named message_passes kind_of guard_of judged aged aged_by
+unfolding tag_of class_of nd_of named message_passes kind_of guard_of judged aged aged_by
 other_passes = refl
 
 pub other_passes_behind_all : verdict_of plan empty (joined (gone first steps)) port_two 401000 packet ≡ verdicts.Pass scopes.All
-unfolding class_of nd_of named message_passes kind_of guard_of judged aged aged_by
+unfolding tag_of class_of nd_of named message_passes kind_of guard_of judged aged aged_by
 other_passes_behind_all = refl
 
 pub all_octets : (xs : List ℕ) → list_all (λ x. nat_lt x 256) xs ≡ true → IsBytes xs
@@ -129,7 +148,7 @@ rows_of_octets (r ∷ past) low =
 
 -- the segments are legal
 pub first_is_legal : AreLegal plan first
-unfolding class_of nd_of named message_passes kind_of guard_of judged aged aged_by
+unfolding tag_of class_of nd_of named message_passes kind_of guard_of judged aged aged_by
 first_is_legal = (
   (
     (Frame port_one 2000 packet, (record { open_pass = record { known = refl; running = refl }; room = refl; fits = lit≤ tt }, lit≤ tt), refl),
@@ -140,7 +159,7 @@ first_is_legal = (
 )
 
 pub both_are_legal : AreLegal plan (gone first steps)
-unfolding class_of nd_of named message_passes kind_of guard_of judged aged aged_by
+unfolding tag_of class_of nd_of named message_passes kind_of guard_of judged aged aged_by
 both_are_legal = (
   ((Frame port_two 400000 packet, (record { open_pass = record { known = refl; running = refl }; room = refl; fits = lit≤ tt }, lit≤ tt), refl), tt),
   All-cons (λ (r : Row). IsBytes r.octets) other [] packet_octets (All-nil (λ (r : Row). IsBytes r.octets)),

@@ -1,16 +1,22 @@
 -- A worked session of two segments, computed: a history has room for one line, and two come.
 use Rattle.std.proofs.Common.{◌≡◌, ℕ, zero, suc, ◌&&◌, Bool, true, List, [], ◌∷◌, All, codes, refl, sym, subst, lit≤, Some, inl, inr, arith}
 use Rattle.std.specs.List.Sorted.{IsStrictlyIncreasing}
-use Rattle.std.proofs.lemmas.Bool.{and_parts, cases_eq}
+use Rattle.std.proofs.lemmas.Bool.{and_parts, cases_eq, false≢true}
 use Rattle.std.proofs.lemmas.List.Elements.{All-nil, All-cons}
 use Rattle.hex.specs.Hex.{IsBytes}
+use Rattle.savi_kinds.specs.declared.port.Port.{Port}
+use Rattle.savi_kinds.specs.declared.plan.Role.{Role}
+use Rattle.savi_kinds.specs.declared.plan.Format.{Format}
 use Rattle.savi_kinds.specs.declared.plan.Plan.{Plan}
+use Rattle.savi_kinds.specs.declared.plan.PrefixPlan.{PrefixPlan}
 use Rattle.savi_kinds.specs.declared.plan.Role.TheVariants as roles
 use Rattle.savi_kinds.specs.declared.plan.Format.TheVariants as formats
+use Rattle.savi_kinds.specs.declared.plan.Vlan.TheVariants.{Access}
 use Rattle.savi_kinds.specs.declared.entry.Who.TheVariants as passes
 use Rattle.savi_kinds.specs.declared.entry.How.{How}
 use Rattle.savi_kinds.specs.declared.entry.How.TheVariants as hows
-use Rattle.savi_kinds.specs.ValidPlan.{IsPlanPrefix, IsValidPlan}
+use Rattle.savi_kinds.specs.ValidPlan.{HasPlanVlans, IsPlanPrefix, IsValidPlan}
+use Rattle.savi_kinds.specs.Vlans.{IsVlan}
 use Rattle.cli_lang.specs.CommandOf.{command_of}
 use Rattle.hist_store.specs.Rows.{Row}
 use Rattle.checkpoint.specs.Bases.{Base, empty}
@@ -40,8 +46,17 @@ plan = record {
   life = 300000;
   control = Some ([], []);
   journal = [];
-  ports = record { number = port_one; role = roles.Host; format = formats.Stream; input = []; output = [] } ∷ [];
+  ports = record { number = port_one; role = roles.Host; format = formats.Stream; input = []; output = []; vlan = Access 1 } ∷ [];
   prefixes = [];
+}
+
+-- a port of VLAN 1 alone
+of_one : {number : Port} {role : Role} {format : Format} → HasPlanVlans (record { number = number; role = role; format = format; input = []; output = []; vlan = Access 1 })
+of_one = record {
+  numbers = All-cons IsVlan 1 [] (lit≤ tt, lit≤ tt) (All-nil IsVlan);
+  some = lit≤ tt;
+  rising = λ k inside. absurd (omega (arith, inside));
+  trusted = λ trunk. absurd (false≢true trunk);
 }
 
 pub plan_is_valid : IsValidPlan plan
@@ -57,8 +72,11 @@ plan_is_valid = record {
   life = (300, refl, (lit≤ tt, lit≤ tt));
   port_count = (lit≤ tt, lit≤ tt);
   ports = one_rises;
+  port_vlans = All-cons HasPlanVlans (record { number = port_one; role = roles.Host; format = formats.Stream; input = []; output = []; vlan = Access 1 }) [] of_one (All-nil HasPlanVlans);
+  vlan_count = lit≤ tt;
   prefix_count = lit≤ tt;
   plan_prefixes = All-nil IsPlanPrefix;
+  prefix_vlans = All-nil (λ (p : PrefixPlan). IsVlan p.vlan);
   prefixes = λ i j d lower inside. absurd (omega (arith, inside));
 }
   where

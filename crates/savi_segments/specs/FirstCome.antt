@@ -15,11 +15,12 @@ abbrev pub AllSegmentsPassedRightly : Plan → List (List Row) → Type 0
 AllSegmentsPassedRightly plan [] = Unit {0}
 AllSegmentsPassedRightly plan (segment ∷ before) = AllPassedRightly plan (base_after plan before) segment × AllSegmentsPassedRightly plan before
 
--- Where an address was live at a port at some place of the segments, and a later row is of a frame with that source that
--- passed at another port of a host or a server, in the same segment or a later one, the first port had lost the address
--- since by one of three causes: by what all rows between the two told, read from the start of the switch.
+-- Where an address of a VLAN was live at a port at some place of the segments, and a later row is of a frame of that VLAN
+-- with that source that passed at another port of a host or a server, in the same segment or a later one, the first port had
+-- lost the address since by one of three causes: by what all rows between the two told, read from the start of the switch.
 abbrev pub SegmentsKeepWhoCameFirst : Plan → List (List Row) → Type 0
 SegmentsKeepWhoCameFirst plan segments =
-    (first : List (List Row)) (between later : List Step) (r : Row) (a : ℕ) (port : Port) → segments ≡ gone first (later ++ Enters r ∷ between)
-    → IsLiveAtEnd plan empty (joined first) a port → PassedElsewhere plan r a port
-    → IsLostSince plan empty (joined first) (rows_in between) r.entry.moment a port
+    (first : List (List Row)) (between later : List Step) (r : Row) (vlan a : ℕ) (port : Port)
+    → segments ≡ gone first (later ++ Enters r ∷ between)
+    → IsLiveAtEnd plan empty (joined first) vlan a port → PassedElsewhere plan r vlan a port
+    → IsLostSince plan empty (joined first) (rows_in between) r.entry.moment vlan a port

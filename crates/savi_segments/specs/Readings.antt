@@ -32,7 +32,7 @@ pub record ReadsAs (plan : Plan) (base : Base) (early : List Row) (mid : Base) (
   pub tells : marks plan base (late ++ early) ≡ marks plan mid late ++ marks plan base early
   pub shut : (q : ℕ) → has_port plan q ≡ true → is_shut plan base q (late ++ early) ≡ is_shut plan mid q late
   pub ended : (pass : ℕ) → pass < pass_count plan → end_of base pass (late ++ early) ≡ end_of mid pass late
-  pub known : (vlan : ℕ) → stations vlan base (late ++ early) ≡ stations vlan mid late
+  pub known : (vlan : ℕ) → stations vlan plan base (late ++ early) ≡ stations vlan plan mid late
   pub counts : counts_of base (late ++ early) ≡ counts_of mid late
   pub states : (t vlan a : ℕ) → last_moment mid late ≤ t
       → state_at (rules_of plan).addresses (access_of base).addresses (told (marks plan base (late ++ early))) t vlan a

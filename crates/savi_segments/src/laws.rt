@@ -7,6 +7,7 @@ ghost use Rattle.savi_kinds.specs.declared.plan.Role.TheVariants.{Trusted};
 ghost use Rattle.savi_kinds.specs.declared.port.Port.{Port};
 ghost use Rattle.savi_kinds.specs.Ports.{number_of};
 ghost use Rattle.eth_frame.specs.declared.header.Eth.{Eth};
+ghost use Rattle.eth_frame.specs.Tags.{inner};
 ghost use Rattle.v6_chain.specs.declared.packet.Ip.{Ip};
 ghost use Rattle.frame_class.specs.declared.classes.Class.TheVariants.{Ip6};
 ghost use Rattle.frame_class.specs.declared.classes.Read.{Read};
@@ -27,6 +28,7 @@ ghost use Rattle.savi_history.specs.Legal.{IsLegal};
 ghost use Rattle.savi_history.specs.Limits.{IsWithinLimits};
 ghost use Rattle.savi_history.specs.Moments.{moment_at};
 ghost use Rattle.savi_history.specs.Passes.{has_port, role_of};
+ghost use Rattle.savi_history.specs.Vlans.{vlan_of_frame};
 ghost use Rattle.savi_segments.specs.Checkpoints.{after};
 ghost use Rattle.savi_segments.specs.Segments.{base_after, joined, AreOctets, AreLegal};
 ghost use Rattle.savi_history.specs.Shown.{counts_of};
@@ -67,21 +69,22 @@ pub fn segments_leave_what_their_rows_leave()
     histories_tell_rightly();
 }
 
-/// First come, first served, over segments of a switch that validates sources. Where an address is live at a port after
-/// some segments, and after more rows and turns a frame with that source passes at another port of a host or a server, by
-/// the newest segment alone, the first port had lost the address since by one of three causes: by what all rows told, read
-/// from the start of the switch (`next`). So it is of each frame that the segments hold (`all`).
+/// First come, first served, over segments of a switch that validates sources. Where an address of a VLAN is live at a port
+/// after some segments, and after more rows and turns a frame of that VLAN with that source passes at another port of a host
+/// or a server, by the newest segment alone, the first port had lost the address since by one of three causes: by what all
+/// rows told, read from the start of the switch (`next`). So it is of each frame that the segments hold (`all`).
 pub fn segments_keep_who_came_first()
     ensures all { (plan : Plan) (segments : List (List Row)) → IsValidPlan plan → plan.savi ≡ true → AreLegal plan segments
         → SegmentsKeepWhoCameFirst plan segments }
     ensures next { (plan : Plan) (first : List (List Row)) (steps : List Step) (p q : Port) (stamp : ℕ) (octets : List ℕ)
-        (eth : Eth) (ip : Ip) (read : Read)
+        (vlan : ℕ) (eth : Eth) (ip : Ip) (read : Read)
         → IsValidPlan plan → plan.savi ≡ true → AreLegal plan (gone first steps)
-        → has_port plan (number_of q) ≡ true → role_of plan (number_of q) ≢ Trusted → class_of octets ≡ Ip6 eth ip read
-        → IsLiveAtEnd plan empty (joined first) ip.src.0 p → ¬ Same q p
+        → has_port plan (number_of q) ≡ true → role_of plan (number_of q) ≢ Trusted
+        → vlan_of_frame plan (number_of q) octets ≡ Some vlan → class_of (inner octets) ≡ Ip6 eth ip read
+        → IsLiveAtEnd plan empty (joined first) vlan ip.src.0 p → ¬ Same q p
         → IsPass (Some (verdict_of plan (newest_base plan (gone first steps)) (newest_rows (gone first steps)) q stamp octets))
         → IsLostSince plan empty (joined first) (rows_in steps) (moment_at empty (joined (gone first steps)) stamp)
-        ip.src.0 p }
+        vlan ip.src.0 p }
 {
     histories_tell_rightly();
 }

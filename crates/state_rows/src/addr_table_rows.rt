@@ -1,6 +1,6 @@
 //! One table over scripts of events.
 
-ghost use Rattle.std.specs.Prelude.{◌≡◌, ◌≤◌, ◌^◌, ℕ, List, Some};
+ghost use Rattle.std.specs.Prelude.{◌≤◌, ◌^◌, ℕ, List, Some};
 ghost use Rattle.savi_access.specs.declared.row.Row.{Row};
 ghost use Rattle.savi_kinds.specs.declared.plan.Method.TheVariants.{Mixed};
 ghost use Rattle.savi_access.specs.declared.sent.SentProbe.{SentProbe};
@@ -12,7 +12,7 @@ use crate::plain::{Says, TIMES, plain_verdict, port, port_of};
 use addr_table::{AddrTable, ProbeSink};
 use fcfs_states::{Ev, Probe};
 use savi_access::SentProbe;
-use savi_kinds::{Addr, LAST_MOMENT, Method, Moment, Rule};
+use savi_kinds::{Addr, DEFAULT_VLAN, LAST_MOMENT, Method, Moment, Rule};
 use std::process::Abort;
 use std::test::Fail;
 
@@ -199,9 +199,9 @@ impl LastProbes {
 }
 
 impl ProbeSink for LastProbes {
-    ghost after = { λ last sent. record { first = last.second; second = last.third; third = last.fourth; fourth = last.fifth; fifth = last.sixth; sixth = last.seventh; seventh = Some sent } };
+    ghost after = { λ last vlan sent. record { first = last.second; second = last.third; third = last.fourth; fourth = last.fifth; fifth = last.sixth; sixth = last.seventh; seventh = Some sent } };
 
-    fn take(&mut self, sent: SentProbe) {
+    fn take(&mut self, _vlan: u16, sent: SentProbe) {
         self.first = self.second;
         self.second = self.third;
         self.third = self.fourth;
@@ -241,8 +241,9 @@ fn age(rt: &impl Abort, table: &mut AddrTable, t: Moment, probes: &[Due], name: 
 {
     let is_due = table.is_due(t);
     assert!(rt; is_due || probes.is_empty(), "{name}");
+    assert_eq!(rt; table.first_due(t).is_some(), is_due, "{name}");
     let mut last = LastProbes::none();
-    table.age_to(t, &mut last);
+    table.age_to(DEFAULT_VLAN, t, &mut last);
     assert!(rt; !table.is_due(t), "{name}");
     expect_probes(rt, &last, probes, name);
 }
@@ -282,7 +283,7 @@ fn a_sink_takes_the_probes_in_order(rt: HostRuntime) -> Result<(), Fail> {
         play(&rt, &mut table, step);
     }
     let mut last = LastProbes::none();
-    table.age_to(302_100, &mut last);
+    table.age_to(DEFAULT_VLAN, 302_100, &mut last);
     let wanted = probe_of(&rt, (301_850, 0x11, 1));
     assert_eq!(rt; last.seventh, Some(wanted));
     assert_eq!(rt; table.size(), 0);

@@ -5,7 +5,7 @@ use control_replies::{Counts, PortRow, Refusal, Reply};
 use dhcp_states::Bound;
 use fcfs_states::Fcfs;
 use mix_rules::AddrState;
-use savi_kinds::{Addr, Mac, Port, Role};
+use savi_kinds::{Addr, DEFAULT_VLAN, Mac, Port, Role};
 use std::alloc::AllocError;
 use std::process::Abort;
 
@@ -23,6 +23,12 @@ const LEASED: Addr = Addr(0x2001_0db8_0002_0000_0000_0000_0000_0101);
 
 // 2001:db8:3::33, of a prefix by both.
 const MIXED_33: Addr = Addr(0x2001_0db8_0003_0000_0000_0000_0000_0033);
+
+// The MAC address of a station.
+const STATION: Mac = Mac([0x02, 0, 0, 0, 0, 0x11]);
+
+// When a station ends that was seen at 2^62 ms.
+const LAST_END: u64 = (1 << 62) + 300_000;
 
 fn first_come(fcfs: Fcfs) -> AddrState {
     AddrState {
@@ -43,13 +49,13 @@ fn bound(p: Port, until: Option<u64>, fcfs: Fcfs) -> AddrState {
     }
 }
 
-// What `show bindings` prints of three addresses; one without a state has no line.
+// What `show bindings` prints of three addresses of VLAN 1; one without a state has no line.
 fn expect_bindings(rt: &impl Abort, reply: &mut Reply, rows: [(Addr, AddrState); 3], want: &str) {
     let [first, second, third] = rows;
     reply.clear();
-    reply.put_binding(&TIMES, first.0, &first.1);
-    reply.put_binding(&TIMES, second.0, &second.1);
-    reply.put_binding(&TIMES, third.0, &third.1);
+    reply.put_binding(&TIMES, DEFAULT_VLAN, first.0, &first.1);
+    reply.put_binding(&TIMES, DEFAULT_VLAN, second.0, &second.1);
+    reply.put_binding(&TIMES, DEFAULT_VLAN, third.0, &third.1);
     reply.put_end();
     assert_eq!(rt; reply.octets(), want.as_bytes());
 }
@@ -127,6 +133,28 @@ fn each_state_has_its_word(rt: HostRuntime) -> Result<(), AllocError> {
     Ok(())
 }
 
+// In VLAN 1 a key is an address alone; in each other one the VLAN's number stands behind it.
+#[test]
+fn keys_name_their_vlan(rt: HostRuntime) -> Result<(), AllocError> {
+    let mut reply = Reply::make(rt.alloc())?;
+    reply.put_binding(&TIMES, 10, LOCAL_11, &valid(port(1), 301_500));
+    reply.put_binding(&TIMES, 20, LOCAL_11, &valid(port(2), 301_600));
+    reply.put_end();
+    let want: &[u8] = b"fe80::11@10 1 valid - 301500\nfe80::11@20 2 valid - 301600\nend\n";
+    assert_eq!(rt; reply.octets(), want);
+    reply.clear();
+    let beside = bound(port(16), Some(722_100), Fcfs::NoBind);
+    reply.put_binding(&TIMES, 4_094, MIXED_33, &beside);
+    reply.put_station(DEFAULT_VLAN, STATION, port(1), 302_600);
+    reply.put_station(2, STATION, port(2), 302_600);
+    reply.put_station(4_094, STATION, port(16), LAST_END);
+    reply.put_end();
+    let want: &[u8] =
+        b"2001:db8:3::33@4094 16 bound - 722100\n02:00:00:00:00:11 1 302600\n02:00:00:00:00:11@2 2 302600\n02:00:00:00:00:11@4094 16 4611686018427687904\nend\n";
+    assert_eq!(rt; reply.octets(), want);
+    Ok(())
+}
+
 #[test]
 fn refusals_are_lines(rt: HostRuntime) -> Result<(), AllocError> {
     let mut reply = Reply::make(rt.alloc())?;
@@ -172,7 +200,7 @@ fn ports_and_stations_are_shown(rt: HostRuntime) -> Result<(), AllocError> {
     };
     reply.put_port(&host);
     reply.put_port(&server);
-    reply.put_station(Mac([0x02, 0, 0, 0, 0, 0x11]), port(1), 302_600);
+    reply.put_station(DEFAULT_VLAN, STATION, port(1), 302_600);
     reply.put_end();
     let want: &[u8] =
         b"1 host up 0 0 0\n16 server down 64 3 256\n02:00:00:00:00:11 1 302600\nend\n";

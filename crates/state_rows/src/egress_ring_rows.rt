@@ -7,10 +7,7 @@ use std::test::Fail;
 #[test]
 fn a_queue_of_one_holds_one(rt: HostRuntime) -> Result<(), Fail> {
     let mut ring = EgressRing::make(rt.alloc(), 1)?;
-    let probe = Item::Probe {
-        due: 7,
-        target: Addr(1),
-    };
+    let probe = probe_in(4_094);
     assert_eq!(rt; ring.take(), None);
     assert_eq!(rt; ring.queue(probe), true);
     assert_eq!(rt; ring.queue(Item::Frame(1)), false);
@@ -18,6 +15,25 @@ fn a_queue_of_one_holds_one(rt: HostRuntime) -> Result<(), Fail> {
     assert_eq!(rt; ring.take(), Some(probe));
     assert_eq!(rt; ring.take(), None);
     Ok(())
+}
+
+#[test]
+fn probes_of_two_vlans_for_one_target_wait_apart(rt: HostRuntime) -> Result<(), Fail> {
+    let mut ring = EgressRing::make(rt.alloc(), 2)?;
+    assert_eq!(rt; ring.queue(probe_in(10)), true);
+    assert_eq!(rt; ring.queue(probe_in(20)), true);
+    assert_eq!(rt; ring.take(), Some(probe_in(10)));
+    assert_eq!(rt; ring.take(), Some(probe_in(20)));
+    Ok(())
+}
+
+// The probe of address 1 in a VLAN.
+fn probe_in(vid: u16) -> Item {
+    Item::Probe {
+        due: 7,
+        target: Addr(1),
+        vid,
+    }
 }
 
 #[test]

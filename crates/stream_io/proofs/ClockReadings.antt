@@ -1,5 +1,5 @@
 -- The readings that a clock has added: none, and one more behind others.
-use Rattle.std.proofs.Common.{◌≡◌, ℕ, List, [], ◌∷◌, ◌++◌, refl, sym, ap, subst, ◌∙◌, append-nil, append_assoc, Option, Some, None}
+use Rattle.std.proofs.Common.{ℕ, List, [], ◌∷◌, ◌++◌, refl, sym, ap, subst, ◌∙◌, append-nil, append_assoc, Option, Some, None}
 use Rattle.savi_ends.specs.Readings.{AddsReading}
 use Rattle.stream_io.specs.Calls.{AddsReadings}
 

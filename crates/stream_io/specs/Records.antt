@@ -27,6 +27,6 @@ abbrev pub stream_text : List (List ℕ) → List ℕ
 stream_text [] = []
 stream_text (frame ∷ frames) = record_text frame ++ stream_text frames
 
--- no frame is longer than a frame may be
+-- no frame is longer than one that goes out may be: as long as one that comes in, and a tag
 abbrev pub AreFrames : List (List ℕ) → Type 0
-AreFrames frames = All (λ frame. length frame ≤ 1518) frames
+AreFrames frames = All (λ frame. length frame ≤ 1522) frames

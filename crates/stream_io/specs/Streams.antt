@@ -2,7 +2,7 @@
 use Rattle.std.specs.Prelude.{◌≡◌, ◌≢◌, ℕ, ◌+◌, ◌^◌, ◌<◌, ◌≤◌, Bool, false, IsTrue, List, [], ◌∷◌, ◌++◌, length, ◌⊎◌}
 use Rattle.savi_kinds.specs.declared.entry.How.{How}
 use Rattle.savi_kinds.specs.declared.entry.How.TheVariants as how
-use Rattle.savi_kinds.specs.Arrivals.{Arrival, Frame, Long, Input}
+use Rattle.savi_kinds.specs.Arrivals.{Arrival, Frame, Long, arrival_at, Input}
 use Rattle.stream_io.specs.Records.{length_in, IsRecordOf}
 
 -- The length that was read at this place is more than a record may have, or the record would end past place 2^62.
@@ -53,4 +53,4 @@ pub record Arrive (seen : Bool) (readings octets : List ℕ) (input : Input) : T
 abbrev pub frames_stamped : List ℕ → List (List ℕ) → List Arrival
 frames_stamped [] frames = []
 frames_stamped (reading ∷ readings) [] = []
-frames_stamped (reading ∷ readings) (frame ∷ frames) = Frame reading frame ∷ frames_stamped readings frames
+frames_stamped (reading ∷ readings) (frame ∷ frames) = arrival_at reading frame ∷ frames_stamped readings frames

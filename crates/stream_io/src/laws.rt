@@ -20,8 +20,8 @@ pub fn front_arrives()
     ensures { (ends seen : Bool) (readings later_readings octets more : List ℕ) (part whole : Input) → Arrive ends readings octets part → Arrive seen (readings ++ later_readings) (octets ++ more) whole → (later : List Arrival) × (whole.arrivals ≡ part.arrivals ++ later) }
 {}
 
-/// Law: what the writer wrote is read again as the same frames, as many as its clock has readings for.
-/// The stream is no longer than an input may be, 2^62 octets.
+/// Law: what the writer wrote is read again as the same frames, as many as its clock has readings for; a frame that is
+/// longer than one that comes in may be is read as a long one. The stream is no longer than an input may be, 2^62 octets.
 pub fn streams_are_read_again()
     ensures { (readings : List ℕ) (frames : List (List ℕ)) → AreFrames frames → length (stream_text frames) ≤ 2 ^ 62 → Arrive true readings (stream_text frames) (record { arrivals = frames_stamped readings frames; ending = how.End }) }
 {}

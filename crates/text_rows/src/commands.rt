@@ -1,78 +1,30 @@
-//! Commands, and the lines of control.
+//! Commands.
 
-use crate::input::{number_of, text_of};
-use cli_lang::{CmdFault, Command, LineGot, Lines, command};
-use savi_ends::{MemClock, MemSource};
+use crate::input::text_of;
+use cli_lang::{CmdFault, Command, command};
 use savi_kinds::put_addr;
 use std::alloc::Global;
-
-/// How many answers of a reader are printed.
-const ANSWERS: u32 = 6;
 
 /// Prints the command that a line is, or why it is none.
 pub fn print_command(rt: &impl Print, alloc: Global, written: &str) -> anyhow::Result<()> {
     let line = text_of(alloc, written)?;
-    match command(line.as_bytes()) {
-        Ok(Command::ShowBindings) => println!(rt; " bindings")?,
-        Ok(Command::ShowPorts) => println!(rt; " ports")?,
-        Ok(Command::ShowCounters) => println!(rt; " counters")?,
-        Ok(Command::ShowStations) => println!(rt; " stations")?,
-        Ok(Command::Clear(addr)) => println!(rt; " forget {}", put_addr(addr))?,
+    let word = match command(line.as_bytes()) {
+        Ok(Command::Clear(vlan, addr)) => {
+            return Ok(println!(rt; " forget {} in VLAN {vlan}", put_addr(addr))?);
+        }
         Ok(Command::Static(addr, port)) => {
-            println!(rt; " bind {} to port {}", put_addr(addr), port.get())?
+            return Ok(println!(rt; " bind {} to port {}", put_addr(addr), port.get())?);
         }
-        Ok(Command::Shut(port)) => println!(rt; " shut port {}", port.get())?,
-        Ok(Command::Reopen(port)) => println!(rt; " open port {}", port.get())?,
-        Ok(Command::Quit) => println!(rt; " quit")?,
-        Err(fault) => println!(rt; " {}", fault_word(fault))?,
-    }
-    Ok(())
-}
-
-// What isn't there in a line that is no command.
-fn fault_word(fault: CmdFault) -> &'static str {
-    match fault {
-        CmdFault::Unknown => "no command",
-        CmdFault::Address => "no address",
-        CmdFault::PortNumber => "no port",
-    }
-}
-
-/// Prints the first answers to a reader of control lines over these octets: how many a read gives at most, and which read
-/// fails. The clock of live lines reads 10, 20 and 30 ms.
-pub fn print_lines(
-    rt: &impl Print,
-    alloc: Global,
-    octets: &[u8],
-    live: bool,
-    rest: &str,
-) -> anyhow::Result<()> {
-    let (most, rest) = number_of(rest)?;
-    let (read, _) = number_of(rest)?;
-    let fails = [read].to_vec(alloc)?;
-    let mut source = MemSource::new(octets.to_vec(alloc)?, most.max(1) as usize, fails);
-    let mut clock = MemClock::new([10, 20, 30].to_vec(alloc)?);
-    let mut reader = Lines::new();
-    let mut buf = [0; 120];
-    for _ in 0..ANSWERS {
-        let got = reader.next(&mut source, &mut clock, live, &mut buf);
-        print_line(rt, got, &buf)?;
-    }
-    println!(rt; "")?;
-    Ok(())
-}
-
-// Prints an answer: of a line its stamp, its length and its command.
-fn print_line(rt: &impl Print, got: LineGot, buf: &[u8]) -> anyhow::Result<()> {
-    match got {
-        LineGot::Line { stamp, len } => {
-            let octets = buf.get(..len as usize).unwrap_or(&[]);
-            print!(rt; " [{stamp} {len} {}]", str::from_utf8(octets)?)?;
-        }
-        LineGot::End => print!(rt; " [end]")?,
-        LineGot::Malformed { at } => print!(rt; " [malformed at {at}]")?,
-        LineGot::Overlong { at } => print!(rt; " [overlong at {at}]")?,
-        LineGot::Failed => print!(rt; " [failed]")?,
-    }
-    Ok(())
+        Ok(Command::Shut(port)) => return Ok(println!(rt; " shut port {}", port.get())?),
+        Ok(Command::Reopen(port)) => return Ok(println!(rt; " open port {}", port.get())?),
+        Ok(Command::ShowBindings) => "bindings",
+        Ok(Command::ShowPorts) => "ports",
+        Ok(Command::ShowCounters) => "counters",
+        Ok(Command::ShowStations) => "stations",
+        Ok(Command::Quit) => "quit",
+        Err(CmdFault::Unknown) => "no command",
+        Err(CmdFault::Address) => "no address",
+        Err(CmdFault::PortNumber) => "no port",
+    };
+    Ok(println!(rt; " {word}")?)
 }

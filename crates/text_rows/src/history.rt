@@ -1,7 +1,6 @@
 //! The ends of a short history, and what is said of them.
 
 use crate::input::{number_of, port_of};
-use crate::writers::put_word;
 use anyhow::bail;
 use savi_ends::MemSink;
 use savi_kinds::{How, Who};
@@ -44,7 +43,7 @@ impl History {
         let fails = [write.parse::<u64>()?].to_vec(alloc)?;
         let mut sink = MemSink::make(alloc, ROOM, fails)?;
         let put = tell_each(self.ends.as_slice(), &mut sink);
-        println!(rt; " {} [{}]", put_word(put), str::from_utf8(sink.written())?)?;
+        println!(rt; " {put:?} [{}]", str::from_utf8(sink.written())?)?;
         Ok(())
     }
 

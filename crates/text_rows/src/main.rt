@@ -1,13 +1,8 @@
-//! Texts, commands, captures, streams, what a run says, and loads, with the ends in memory that such cases are read from and
-//! written to.
+//! Texts, commands, what a run says, and loads.
 //!
 //! The input is lines, of which those that begin with `#` are passed over. Those of the first part say what others go by:
 //!
 //!     == TEXT                      is printed as it stands: what the lines behind it show
-//!     name NAME DIGITS             octets of a part of an input in hexadecimal digits
-//!     text TEXT                    the input is this text
-//!     input PARTS                  the input is these parts: their names, or `DIGITS*COUNT` for digits that come so often
-//!     add PARTS                    the input has these parts behind what it was
 //!     report WRITE                 nothing was said on standard error yet, and this write will fail
 //!     history                      a history is empty
 //!     end PASS [PORT] END [PLACE]  a pass of the history ends
@@ -17,47 +12,26 @@
 //!     addr TEXT                    the octets of the address, how it is written, and the octets that are read of that
 //!     prefix TEXT                  the octets of the prefix, and its length
 //!     mac TEXT                     the octets of the MAC address, and how it is written
+//!     key TEXT                     the VLAN and the octets of the address, how they are written, and what is read of that
+//!     mac_key VLAN TEXT            how the MAC address is written in this VLAN
 //!     decimal MOST TEXT            the number, which may be so high
 //!     command TEXT                 the command
-//!     lines MOST READ              six answers to a reader of control lines: of a line its stamp, length and command
-//!     live MOST READ               the same where they are live
-//!     read READER MOST READ        four answers to a reader of captures (`capture`), of those of one kind (`little`), or of
-//!                                  streams (`stream`)
-//!     cuts READER MOST             the same of each front of the input, once where that is the same
-//!     cuts READER MOST fails       the same where the read behind the octets of each front fails
-//!     form FORM MOST               three answers to a reader of `pcap` or `stream`, and the octets of each frame
-//!     write FORM WRITE FRAMES      a capture or a stream is written, of frames MOMENT/DIGITS
-//!     source MOST READ             six reads of a source into four octets, those octets, and how many reads failed
-//!     sure                         the same of a source that gives all at once
-//!     fill MOST READ               five octets are filled
-//!     sink ROOM WRITE PIECES       pieces are written to a sink: what each comes to, what it has, and how many failed
-//!     count PIECES                 the same of a sink that counts
-//!     clock READINGS               four readings of a clock over these
-//!     world NAME PORT OPENING      what is opened in a world
 //!     load SEED PACKETS            the digests of the captures of a load
-//!     clocks SETTINGS              readings of the machine's clock
 //!     say WORD NAME                something is said on standard error, of a name, or of a port where that is `#NUMBER`
 //!     said                         what was said
 //!     ends WRITE                   what is said of the ends of the history, where this write fails
 //!     kinds                        which ends the history has, and its summary
 //!
-//! MOST is how many octets a source gives at most in a read; READ, WRITE and OPENING are the numbers, from 1 on, of the
-//! read, the write and the opening that fail, and 0 is none.
+//! WRITE is the number, from 1 on, of the write that fails, and 0 is none.
 #![tactic(auto)]
 
-mod clocks;
 mod commands;
-mod ends;
-mod forms;
 mod history;
 mod input;
 mod loads;
-mod readers;
 mod report;
 mod state;
 mod texts;
-mod world;
-mod writers;
 
 use state::State;
 

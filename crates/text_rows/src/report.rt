@@ -1,7 +1,6 @@
 //! What a run says itself on standard error.
 
 use crate::input::{port_of, text_of};
-use crate::writers::put_word;
 use anyhow::bail;
 use savi_conf::ConfFault;
 use savi_ends::MemSink;
@@ -47,7 +46,7 @@ impl Report {
             "unwritten" => tell_unwritten(&mut self.sink, name.as_str()),
             _ => bail!("nothing to say: {rest}"),
         };
-        println!(rt; " {}", put_word(put))?;
+        println!(rt; " {put:?}")?;
         Ok(())
     }
 

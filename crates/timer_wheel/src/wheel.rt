@@ -114,8 +114,9 @@ impl TimerWheel {
         self.first_due(t).is_some()
     }
 
-    // What is due first, if its moment isn't after t.
-    fn first_due(&mut self, t: Moment) -> Option<(Moment, Addr)>
+    /// What is due first, the least by moment and then by address, if its moment isn't after `t` (ms). It stays armed. Its
+    /// cost is that of `is_due`.
+    pub fn first_due(&mut self, t: Moment) -> Option<(Moment, Addr)>
         ensures rising { IsRising armed_address self.old.arms }
         ensures value { result ≡ due_within t (first_armed self.old.arms) }
         ensures same { self.new ≡ self.old }

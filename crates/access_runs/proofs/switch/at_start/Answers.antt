@@ -1,4 +1,4 @@
-use Rattle.std.proofs.Common.{◌≡◌, ℕ, Result, Ok, Err, IfOk}
+use Rattle.std.proofs.Common.{ℕ, Result, Ok, Err, IfOk}
 use Rattle.savi_access.specs.Plans.{rules_of}
 use Rattle.access_table.specs.Kept.{Kept, IsAgedTo}
 use Rattle.access_runs.proofs.switch.at_start.Goals as goal

@@ -3,7 +3,7 @@ use Rattle.cli_lang.specs.Commands.{Clear, Shut, Open}
 use Rattle.cli_lang.proofs.command_line.two_words.Goals as goal
 
 pub returns-in-Some : goal.returns-in-Some
-returns-in-Some c = inl (Clear c.args.argument.now, ap (λ (w : List ℕ). w ∷ c.args.argument.now ∷ []) (c.if-is-2.ensures.0 refl), (c.in-Some.address, c.in-Some.ensures.read, refl))
+returns-in-Some c = inl (Clear c.args.argument.now, ap (λ (w : List ℕ). w ∷ c.args.argument.now ∷ []) (c.if-is-2.ensures.0 refl), (c.in-Some.vlan, c.in-Some.address, c.in-Some.ensures.read, refl))
 
 pub returns-in-None : goal.returns-in-None
 returns-in-None c = inl (Clear c.args.argument.now, ap (λ (w : List ℕ). w ∷ c.args.argument.now ∷ []) (c.if-is-2.ensures.0 refl), (c.in-None.ensures.only, refl))

@@ -1,4 +1,4 @@
-use Rattle.std.proofs.Common.{List, ◌++◌, map, ap, ◌∙◌}
+use Rattle.std.proofs.Common.{List, ◌++◌, length, map, ap, ◌∙◌, arith}
 use Rattle.savi_kinds.specs.declared.plan.PortPlan.{PortPlan}
 use Rattle.savi_kinds.specs.declared.plan.PrefixPlan.{PrefixPlan}
 use Rattle.hist_store.specs.declared.version.Version.TheVariants.{Two}
@@ -6,6 +6,35 @@ use Rattle.hist_store.specs.TextOfLines.{lines_text}
 use Rattle.hist_store.specs.JournalTexts.{address_text, limit_lines, journal_port_fields, prefix_fields, time_lines, word_lines}
 use Rattle.hist_store.proofs.LineLemmas.{header_in_order}
 use Rattle.hist_store.proofs.header.put_header.Goals as goal
+
+pub put_port_lines-requires : goal.put_port_lines-requires
+put_port_lines-requires c =
+    let few = c.requires.port_count.1 in
+    record {
+      vlans = rw c.as_slice.ensures c.requires.port_vlans;
+      room = omega (arith, few, ap length c.as_slice.ensures, ap length c.clear.ensures, c.put_word_lines.ensures.size, c.put_limit_lines.ensures.size, c.put_time_lines.ensures.size);
+    }
+
+pub put_prefix_lines-requires : goal.put_prefix_lines-requires
+put_prefix_lines-requires c =
+    let few = c.requires.port_count.1 in
+    let prefixes = c.requires.prefix_count in
+    record {
+      vlans = rw c.as_slice-2.ensures c.requires.prefix_vlans;
+      room =
+          omega (
+            arith,
+            few,
+            prefixes,
+            ap length c.as_slice.ensures,
+            ap length c.as_slice-2.ensures,
+            ap length c.clear.ensures,
+            c.put_word_lines.ensures.size,
+            c.put_limit_lines.ensures.size,
+            c.put_time_lines.ensures.size,
+            c.put_port_lines.ensures.size,
+          );
+    }
 
 pub returns : goal.returns
 returns c =

@@ -3,6 +3,12 @@ use Rattle.hist_store.specs.JournalTexts.{journal_port_fields}
 use Rattle.hist_store.proofs.LineLemmas.{written_next}
 use Rattle.hist_store.proofs.header.put_port_lines.Goals as goal
 
+pub put_port_line-requires : goal.put_port_line-requires
+put_port_line-requires c = record {
+  vlans = rw c.port-item.is (c.requires.vlans c.loop-port.port-index c.port-item.result c.loop-port-test.true);
+  room = omega (arith, c.loop-port.invariant.size, c.loop-port-test.true, c.requires.room);
+}
+
 pub loop-port-preserved : goal.loop-port-preserved
 loop-port-preserved c =
     let was = c.loop-port.invariant in

@@ -3,6 +3,12 @@ use Rattle.hist_store.specs.JournalTexts.{address_text, prefix_fields}
 use Rattle.hist_store.proofs.LineLemmas.{written_each}
 use Rattle.hist_store.proofs.header.put_prefix_lines.Goals as goal
 
+pub put_prefix_line-requires : goal.put_prefix_line-requires
+put_prefix_line-requires c = record {
+  vlan = c.requires.vlans c.loop-prefix.prefix-index _ c.loop-prefix-test.true;
+  room = omega (arith, c.loop-prefix.invariant.size, c.loop-prefix-test.true, c.requires.room);
+}
+
 pub loop-prefix-preserved : goal.loop-prefix-preserved
 loop-prefix-preserved c =
     let was = c.loop-prefix.invariant in

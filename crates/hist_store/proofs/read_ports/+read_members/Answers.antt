@@ -1,24 +1,16 @@
-use Rattle.std.proofs.Common.{ℕ, ◌≡◌, ◌==◌, Bool, true, List, [], ◌++◌, length, take, drop, decimal, Some, sym, ap, ◌∙◌, arith, inl, inr, take-append-drop, length-drop, subst}
-use Rattle.std.proofs.lemmas.Bool.{eqb-true}
-use Rattle.std.proofs.lemmas.List.{nil_from_length}
+use Rattle.std.proofs.Common.{ℕ, ◌≡◌, true, length, decimal, Some, sym, ap, ◌∙◌, arith, inl, inr, length-drop, subst}
 use Rattle.std.proofs.lemmas.Option.{none-some}
 use Rattle.savi_kinds.specs.declared.port.Port.{Port}
 use Rattle.savi_kinds.specs.Ports.{number_of}
+use Rattle.savi_kinds.proofs.MacGrammar.{left_none}
 use Rattle.hist_store.specs.PortTexts.{ListsMembersAbove}
 use Rattle.hist_store.proofs.OnePort.{the_port}
 use Rattle.hist_store.proofs.EndRead.{none_left}
-use Rattle.hist_store.proofs.PortsRead.{comma_place, cut_of, IsGrown, ends, goes_on, ended, went_on, tail_cases, if_some, grown_above}
+use Rattle.hist_store.proofs.PortsRead.{comma_place, cut_of, IsGrown, ends, goes_on, ended, went_on, tail_cases, if_some, grown_above, whole_text}
 use Rattle.hist_store.proofs.read_ports.+read_members.Goals as goal
-
-empty_from : (t : List ℕ) (b : Bool) → b ≡ (length t == 0) → b ≡ true → t ≡ []
-empty_from t b is holds = nil_from_length t (eqb-true (length t) 0 (sym is ∙ holds))
 
 port_of : (p q : Port) → Some p ≡ Some q → q.number ≡ p.number
 port_of p q same = let one : p ≡ q = cc same in sym (ap number_of one)
-
--- a text and its cut
-whole_text : (text front rest digits : List ℕ) (place : ℕ) → front ≡ take place text → rest ≡ drop place text → front ≡ digits → text ≡ digits ++ rest
-whole_text text front rest digits place a b is = sym (take-append-drop place text) ∙ ap (λ (t : List ℕ). t ++ drop place text) (sym a ∙ is) ∙ ap (λ (t : List ℕ). digits ++ t) (sym b)
 
 pub read_members-requires : goal.read_members-requires
 read_members-requires t c =
@@ -59,7 +51,7 @@ returns-then-is_empty-clause-read t c =
       above = c.requires;
       size = c.know_ports.ensures;
     } in
-    ends c.args.set c.with-grown.result c.args.last port.number grown c.args.text.now c.cut_member.result.1.now (empty_from _ c.is_empty.result c.is_empty.ensures c.if-is_empty.true)
+    ends c.args.set c.with-grown.result c.args.last port.number grown c.args.text.now c.cut_member.result.1.now (left_none _ c.is_empty.result c.is_empty.ensures c.if-is_empty.true)
     (whole_text c.args.text.now _ _ (decimal port.number) _ c.cut_member.ensures.front c.cut_member.ensures.rest c.in_ok-port.ensures.read)
 
 pub returns-then-is_empty-clause-whole : goal.returns-then-is_empty-clause-whole
@@ -76,7 +68,7 @@ returns-then-is_empty-clause-whole t c = λ whole goes.
     let low = one.low in
     let wanted = the_port one.port (omega arith) one.high in
     let port_is : one.port ≡ port.number = port_of port wanted (c.in_ok-port.ensures.whole wanted (c.cut_member.ensures.front ∙ one.front)) in
-    ap Some (ended c.args.set c.with-grown.result c.args.last port.number grown whole c.args.text.now goes one port_is (sym c.cut_member.ensures.rest ∙ empty_from _ c.is_empty.result c.is_empty.ensures c.if-is_empty.true))
+    ap Some (ended c.args.set c.with-grown.result c.args.last port.number grown whole c.args.text.now goes one port_is (sym c.cut_member.ensures.rest ∙ left_none _ c.is_empty.result c.is_empty.ensures c.if-is_empty.true))
 
 pub returns-in_err-more-clause-whole : goal.returns-in_err-more-clause-whole
 returns-in_err-more-clause-whole t c = rw c.from_residual-in_err-more.ensures (λ whole goes.

@@ -1,6 +1,6 @@
 use Rattle.std.proofs.Common.{◌*◌, IfSome, ap, sym, subst, ◌∙◌}
 use Rattle.savi_ends.specs.Octets.{in_front}
-use Rattle.savi_core.specs.Machines.{Machine, base_of}
+use Rattle.savi_core.specs.Machines.{Machine, base_of, station_room}
 use Rattle.savi_core.proofs.Leaving.{start_is}
 use Rattle.journal_check.specs.Headers.{head_text}
 use Rattle.journal_check.specs.Pieces.{to_come}
@@ -12,7 +12,7 @@ use Rattle.journal_check.proofs.Given.{gave_none}
 use Rattle.journal_check.proofs.reading.check_behind.Goals as goal
 
 pub check_segments-requires-clause-base : goal.check_segments-requires-clause-base
-check_segments-requires-clause-base g c = ap base_of c.in-Ok.ensures ∙ start_is (16 * c.args.plan.per_port) (256 * 16)
+check_segments-requires-clause-base g c = ap base_of c.in-Ok.ensures ∙ start_is (16 * c.args.plan.per_port) (station_room c.args.plan)
 
 pub returns-in-Ok-clause-answer : goal.returns-in-Ok-clause-answer
 returns-in-Ok-clause-answer g c =

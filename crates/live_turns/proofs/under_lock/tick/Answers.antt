@@ -8,7 +8,8 @@ use Rattle.savi_history.specs.Limits.{has_room}
 use Rattle.savi_history.specs.Replay.{closing, with_event}
 use Rattle.savi_core.specs.Machines.{Machine, base_of}
 use Rattle.live_session.specs.Ticking.{IsPassedOver}
-use Rattle.live_turns.specs.declared.kinds.TickTurn.TheVariants.{Full, Idle}
+use Rattle.live_turns.specs.declared.kinds.TickTurn.TheVariants.{Full, Idle, Made}
+use Rattle.live_turns.specs.TurnKinds.{DidTick}
 use Rattle.live_turns.proofs.PassedOver.{idle, passed_over}
 use Rattle.live_turns.proofs.under_lock.tick.Goals as goal
 
@@ -52,3 +53,9 @@ returns-else-has_input c =
         c.end_pass.ensures.did ∙ ap (λ (t : Machine × How). with_event t.0.plan (base_of t.0) t.0.past (End Ticker t.1)) (λ i. (same i, how i)),
       );
     }
+
+pub returns-in-Done-clause-did : goal.returns-in-Done-clause-did
+returns-in-Done-clause-did c =
+    let did = c.in-Done.ensures in
+    subst (λ (m : Machine). DidTick c.args.stamp Made m.plan (base_of m) m.past c.step.new.self.past) c.deref_mut.ensures.value
+    (did.0, did.1, ap (λ (m : Machine). m.past) did.2)

@@ -1,5 +1,5 @@
 use Rattle.savi_conf.specs.PlanOf.{IsPortOf}
-use Rattle.savi_conf.proofs.InOrder.{SayInOrder-map, ports_rise}
+use Rattle.savi_conf.proofs.InOrder.{SayInOrder-map, ports_have_few, ports_have_vlans, ports_rise}
 use Rattle.savi_conf.proofs.PartsLemmas.{view_of}
 use Rattle.savi_conf.proofs.lists.port_plans.Goals as goal
 
@@ -13,3 +13,10 @@ returns-clause-lists c = record {
 pub returns-clause-order : goal.returns-clause-order
 returns-clause-order c =
     ports_rise c.args.tables.now _ c.sort_ports.new.plans.items c.in_ok-plans.ensures c.sort_ports.ensures.permutation c.sort_ports.ensures.order c.requires.different
+
+pub returns-clause-vlans : goal.returns-clause-vlans
+returns-clause-vlans c =
+    ports_have_vlans c.args.tables.now _ c.sort_ports.new.plans.items c.in_ok-plans.ensures c.sort_ports.ensures.permutation c.requires.each c.requires.trusted
+
+pub returns-clause-few : goal.returns-clause-few
+returns-clause-few c = ports_have_few c.args.tables.now _ c.sort_ports.new.plans.items c.in_ok-plans.ensures c.sort_ports.ensures.permutation c.requires.few

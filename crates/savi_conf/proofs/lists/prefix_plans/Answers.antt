@@ -1,8 +1,5 @@
-use Rattle.std.proofs.Common.{◌≤◌}
-use Rattle.savi_kinds.specs.Prefixes.{first_of, past_of}
 use Rattle.savi_conf.specs.PlanOf.{IsPrefixOf}
-use Rattle.savi_conf.proofs.InOrder.{SayInOrder-map, are_plan_prefixes, prefixes_in_order}
-use Rattle.savi_conf.proofs.Listed.{AllPairs-map}
+use Rattle.savi_conf.proofs.InOrder.{SayInOrder-map, are_plan_prefixes, are_prefix_vlans, prefixes_in_order}
 use Rattle.savi_conf.proofs.PartsLemmas.{view_of}
 use Rattle.savi_conf.proofs.lists.prefix_plans.Goals as goal
 
@@ -17,7 +14,10 @@ pub returns-clause-planned : goal.returns-clause-planned
 returns-clause-planned c =
     are_plan_prefixes c.args.tables.now _ c.sort_prefixes.new.plans.items c.in_ok-plans.ensures c.sort_prefixes.ensures.permutation c.requires.planned
 
+pub returns-clause-vlans : goal.returns-clause-vlans
+returns-clause-vlans c =
+    are_prefix_vlans c.args.tables.now _ c.sort_prefixes.new.plans.items c.in_ok-plans.ensures c.sort_prefixes.ensures.permutation c.requires.each
+
 pub returns-clause-order : goal.returns-clause-order
 returns-clause-order c =
-    AllPairs-map (λ p q. past_of p ≤ first_of q) (λ p. p.prefix) c.sort_prefixes.new.plans.items
-    (prefixes_in_order c.args.tables.now _ c.sort_prefixes.new.plans.items c.in_ok-plans.ensures c.sort_prefixes.ensures.permutation c.sort_prefixes.ensures.order c.requires.apart)
+    prefixes_in_order c.args.tables.now _ c.sort_prefixes.new.plans.items c.in_ok-plans.ensures c.sort_prefixes.ensures.permutation c.sort_prefixes.ensures.order c.requires.apart

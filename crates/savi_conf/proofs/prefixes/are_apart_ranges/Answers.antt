@@ -1,11 +1,14 @@
-use Rattle.toml.specs.View.{table_view}
-use Rattle.savi_conf.proofs.PrefixLemmas.{apart_tables}
+use Rattle.savi_conf.proofs.Both.{refuted}
 use Rattle.savi_conf.proofs.prefixes.are_apart_ranges.Goals as goal
 
-pub returns-in-Some-Some : goal.returns-in-Some-Some
-returns-in-Some-Some c =
-    let p = c.in-Some-Some.prefix in
-    let q = c.in-Some-Some.other_prefix in (
-      λ apart. apart_tables (table_view c.args.one.now) (table_view c.args.other.now) p q c.in-Some-Some.ensures.read c.in-Some-Some.ensures'.read (c.are_apart.ensures.0 apart),
-      λ tables. c.are_apart.ensures.1 (tables.each p q c.in-Some-Some.ensures.read c.in-Some-Some.ensures'.read),
-    )
+pub returns-then-not-are_of_one_vlan : goal.returns-then-not-are_of_one_vlan
+returns-then-not-are_of_one_vlan c = (
+  λ _. record { each = λ same. absurd (refuted c.are_of_one_vlan.result c.if-not-are_of_one_vlan.true c.are_of_one_vlan.ensures same) },
+  λ _. cc,
+)
+
+pub returns-else-not-are_of_one_vlan : goal.returns-else-not-are_of_one_vlan
+returns-else-not-are_of_one_vlan c = (
+  λ yes. record { each = λ same. c.tell_apart_ranges.ensures.0 yes },
+  λ ranges. c.tell_apart_ranges.ensures.1 (ranges.each (c.are_of_one_vlan.ensures.0 c.if-not-are_of_one_vlan.false)),
+)

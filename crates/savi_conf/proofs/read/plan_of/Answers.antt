@@ -65,7 +65,10 @@ returns-clause-valid c =
       life = seconds_from 1 86400 c.natural_at-5.result _ (sym c.natural_at-5.ensures) (met Times).life;
       port_count = (omega (arith, listed_count _ _ _ c.in_ok-ports_of.ensures.lists, (met PortCount).0), omega (arith, listed_count _ _ _ c.in_ok-ports_of.ensures.lists, (met PortCount).1));
       ports = c.in_ok-ports_of.ensures.order;
+      port_vlans = c.in_ok-ports_of.ensures.vlans;
+      vlan_count = c.in_ok-ports_of.ensures.few;
       prefix_count = omega (arith, listed_count _ _ _ c.in_ok-prefixes_of.ensures.lists, (met PrefixTexts).count);
       plan_prefixes = c.in_ok-prefixes_of.ensures.planned;
+      prefix_vlans = c.in_ok-prefixes_of.ensures.vlans;
       prefixes = c.in_ok-prefixes_of.ensures.order;
     }

@@ -7,10 +7,10 @@ use Rattle.savi_core.proofs.commands.obey.Goals as goal
 
 pub returns-in-Ok-clause-obeyed : goal.returns-in-Ok-clause-obeyed
 returns-in-Ok-clause-obeyed c = λ base past states.
-    subst (λ (order : Result Command CmdFault). Obeys c.args.ports.now c.args.t order c.obey_order.new.access c.args.queues.now c.obey_order.new.queues c.obey_order.result base past) (sym c.in-Ok.is ∙ c.command.ensures.value)
+    subst (λ (order : Result Command CmdFault). Obeys c.args.ports.now c.args.t order c.obey_order.new.sets c.args.queues.now c.obey_order.new.queues c.obey_order.result base past) (sym c.in-Ok.is ∙ c.command.ensures.value)
     (c.obey_order.ensures.obeyed base past states)
 
 pub returns-in-Err-clause-obeyed : goal.returns-in-Err-clause-obeyed
 returns-in-Err-clause-obeyed c = λ base past states.
-    subst (λ (order : Result Command CmdFault). Obeys c.args.ports.now c.args.t order c.args.access.now c.args.queues.now c.args.queues.now (Some c.fault_refusal.result) base past) (sym c.in-Err.is ∙ c.command.ensures.value)
+    subst (λ (order : Result Command CmdFault). Obeys c.args.ports.now c.args.t order c.args.sets.now c.args.queues.now c.args.queues.now (Some c.fault_refusal.result) base past) (sym c.in-Err.is ∙ c.command.ensures.value)
     (record { refusal = ap (λ (refusal : Refusal). Some refusal) c.fault_refusal.ensures; states = states; shut = refl; rest = refl })

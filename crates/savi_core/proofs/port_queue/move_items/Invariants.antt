@@ -1,9 +1,10 @@
 use Rattle.std.proofs.Common.{◌-◌, length}
+use Rattle.savi_kinds.specs.Ports.{number_of}
 use Rattle.savi_core.proofs.Moving.{HasMoved}
 use Rattle.savi_core.proofs.port_queue.move_items.Given as goal
 
-abbrev pub invariant-loop-mac : goal.invariant-loop-mac
-invariant-loop-mac l = HasMoved l.mac l.hist.rows l.count l.initial.queue l.queue l.into
+abbrev pub invariant-loop-port : goal.invariant-loop-port
+invariant-loop-port l = HasMoved l.ports (number_of l.port) l.hist.rows l.count l.initial.queue l.queue l.into
 
-abbrev pub decreases-loop-mac : goal.decreases-loop-mac
-decreases-loop-mac l = l.count - length l.into
+abbrev pub decreases-loop-port : goal.decreases-loop-port
+decreases-loop-port l = l.count - length l.into

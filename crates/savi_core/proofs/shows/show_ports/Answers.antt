@@ -19,7 +19,7 @@ pub loop-port-preserved : goal.loop-port-preserved
 loop-port-preserved c =
     let was = c.loop-port.invariant in
     let plan = c.args.ports.now in
-    let row : PortPlan → PortRow = kept_row c.args.access.now c.args.queues.now c.args.ports.now c.args.t in
+    let row : PortPlan → PortRow = kept_row c.args.sets.now c.args.queues.now c.args.ports.now c.args.t in
     let items : c.as_slice-port-items.result.now ≡ plan.ports = c.as_slice-port-items.ensures ∙ ap (λ (p : Plan). p.ports) c.plan.ensures.plan in
     let within : c.loop-port.port-index < length plan.ports = omega (arith, c.loop-port-test.true, ap length items) in
     let is : c.port-item.result ≡ get_or plan.ports c.loop-port.port-index c.port-item.result = c.port-item.is ∙ ap (λ (ports : List PortPlan). get_or ports c.loop-port.port-index c.port-item.result) items in
@@ -34,4 +34,4 @@ returns c =
     let plan = c.args.ports.now in
     let items : c.as_slice-port-items.result.now ≡ plan.ports = c.as_slice-port-items.ensures ∙ ap (λ (p : Plan). p.ports) c.plan.ensures.plan in
     let all : length plan.ports ≤ c.loop-port.port-index = omega (arith, c.loop-port-test.false, ap length items) in
-    all_ports (kept_row c.args.access.now c.args.queues.now c.args.ports.now c.args.t) plan.ports c.loop-port.port-index c.loop-port.into c.put_end.new.self all c.loop-port.invariant.text c.put_end.ensures.text
+    all_ports (kept_row c.args.sets.now c.args.queues.now c.args.ports.now c.args.t) plan.ports c.loop-port.port-index c.loop-port.into c.put_end.new.self all c.loop-port.invariant.text c.put_end.ensures.text

@@ -7,6 +7,6 @@ use Rattle.savi_core.proofs.shows.show_ports.Given as goal
 
 abbrev pub invariant-loop-port : goal.invariant-loop-port
 invariant-loop-port l = record {
-  text : l.into ≡ lines_text (map (λ (port : PortPlan). port_fields (kept_row l.access l.queues l.ports l.t port)) (take l.port-index l.ports.ports));
+  text : l.into ≡ lines_text (map (λ (port : PortPlan). port_fields (kept_row l.sets l.queues l.ports l.t port)) (take l.port-index l.ports.ports));
   size : length l.into ≤ 79 * l.port-index;
 }

@@ -1,44 +1,45 @@
-use Rattle.std.proofs.Common.{◌≡◌, ℕ, ◌<◌, ◌≤◌, List, length, get_or, sym, ap, ◌∙◌, arith}
-use Rattle.std.proofs.lemmas.List.{take_all}
+use Rattle.std.proofs.Common.{◌≡◌, ℕ, ◌≤◌, ◌++◌, List, length, take, sym, ap, subst, ◌∙◌, arith, ◌+◌}
+use Rattle.std.proofs.lemmas.List.{append-nil, append_assoc, take_all}
 use Rattle.dhcp_states.specs.declared.request.Request.{Request}
 use Rattle.dhcp_states.specs.Requests.{open_at}
+use Rattle.checkpoint.specs.Columns.{Columns, IsUpTo}
+use Rattle.savi_core.specs.declared.vlan_set.VlanSet.{VlanSet}
+use Rattle.savi_core.specs.VlanSets.{of_sets}
 use Rattle.savi_core.specs.Turns.{with_requests}
-use Rattle.savi_core.proofs.Keeping.{request_kept, request_passed, request_fits, requests_up}
-use Rattle.savi_core.proofs.turning.keep_requests.Goals.{then-is_open, else-is_open}
+use Rattle.savi_core.proofs.Keeping.{each_of, sets_more, sets_few, sets_up}
 use Rattle.savi_core.proofs.turning.keep_requests.Goals as goal
 
-pub loop-request-init : goal.loop-request-init
-loop-request-init c = ap (λ (requests : List (ℕ × Request)). record c.args.into.now { requests = requests }) c.requires.empty
+pub loop-set-init : goal.loop-set-init
+loop-set-init c = ap (λ (column : List (ℕ × Request)). record c.args.into.now { requests = column }) (sym (append-nil c.args.into.now.requests))
 
-pub put_request-requires : goal.put_request-requires
-put_request-requires c =
-    let requests : List Request = c.args.access.now.requests in
-    let i : ℕ = c.loop-request.request-index in
-    let request : Request = c.request-item.result in
-    let within : i < length requests = omega (arith, c.loop-request-test.true, ap length c.requests-request-items.ensures) in
-    let is : request ≡ get_or requests i request = c.request-item.is ∙ ap (λ (l : List Request). get_or l i request) c.requests-request-items.ensures in
+pub keep_requests_of-requires : goal.keep_requests_of-requires
+keep_requests_of-requires c =
+    let sets : List VlanSet = c.args.sets.now in
+    let i : ℕ = c.loop-set.set-index in
+    let set : VlanSet = c.set-item.result in
+    let has : VlanSet → List Request = λ (set : VlanSet). open_at c.args.t set.access.requests in
+    let column_is : c.loop-set.into.requests ≡ of_sets has (take i sets) =
+    ap (λ (k : Columns). k.requests) c.loop-set.invariant ∙ ap (λ (column : List (ℕ × Request)). column ++ of_sets has (take i sets)) c.requires.empty in
+    let few : length (of_sets has (take i sets)) + length (has set) ≤ length (of_sets has sets) = sets_few has sets i set c.loop-set-test.true c.set-item.is in
     record {
-      room = request_fits c.args.t requests i request c.loop-request.into c.args.into.now within is c.loop-request.invariant (sym c.is_open.ensures ∙ c.if-is_open.true) c.requires.few;
-      order = requests_up c.args.t requests i request c.loop-request.into c.args.into.now within is c.loop-request.invariant;
+      order = subst (λ (column : List (ℕ × Request)). IsUpTo set.access.vlan column) (sym column_is) (sets_up has sets i set c.requires.order c.loop-set-test.true c.set-item.is);
+      few = omega (arith, ap length column_is, few, c.requires.few);
     }
 
-pub loop-request-preserved : goal.loop-request-preserved
-loop-request-preserved c =
-    let requests : List Request = c.args.access.now.requests in
-    let i : ℕ = c.loop-request.request-index in
-    let request : Request = c.request-item.result in
-    let within : i < length requests = omega (arith, c.loop-request-test.true, ap length c.requests-request-items.ensures) in
-    let is : request ≡ get_or requests i request = c.request-item.is ∙ ap (λ (l : List Request). get_or l i request) c.requests-request-items.ensures in
-    elim c.if-is_open.branch [
-      | then-is_open w ↦
-          w.into-is
-          ∙ request_kept c.args.t requests i request c.loop-request.into c.args.into.now within is c.loop-request.invariant w.put_request.new.self (sym c.is_open.ensures ∙ w.if-is_open.true) w.put_request.ensures
-      | else-is_open w ↦
-          w.into-is ∙ request_passed c.args.t requests i request c.loop-request.into c.args.into.now within is c.loop-request.invariant (sym c.is_open.ensures ∙ w.if-is_open.false)
-    ]
+pub loop-set-preserved : goal.loop-set-preserved
+loop-set-preserved c =
+    let sets : List VlanSet = c.args.sets.now in
+    let i : ℕ = c.loop-set.set-index in
+    let set : VlanSet = c.set-item.result in
+    let has : VlanSet → List Request = λ (set : VlanSet). open_at c.args.t set.access.requests in
+    let start : Columns = c.args.into.now in
+    c.keep_requests_of.ensures
+    ∙ ap (with_requests (each_of set.access.vlan (has set))) c.loop-set.invariant
+    ∙ ap (λ (column : List (ℕ × Request)). record start { requests = column })
+    (append_assoc start.requests (of_sets has (take i sets)) (each_of set.access.vlan (has set))
+    ∙ ap (λ (more : List (ℕ × Request)). start.requests ++ more) (sym (sets_more has sets i set c.loop-set-test.true c.set-item.is)))
 
 pub returns : goal.returns
 returns c =
-    let requests : List Request = c.args.access.now.requests in
-    let all : length requests ≤ c.loop-request.request-index = omega (arith, c.loop-request-test.false, ap length c.requests-request-items.ensures) in
-    c.loop-request.invariant ∙ ap (λ (l : List Request). with_requests (open_at c.args.t l) c.args.into.now) (take_all c.loop-request.request-index requests all)
+    let has : VlanSet → List Request = λ (set : VlanSet). open_at c.args.t set.access.requests in
+    c.loop-set.invariant ∙ ap (λ (sets : List VlanSet). with_requests (of_sets has sets) c.args.into.now) (take_all c.loop-set.set-index c.args.sets.now (omega (arith, c.loop-set-test.false)))

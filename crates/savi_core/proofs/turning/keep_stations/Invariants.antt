@@ -1,14 +1,8 @@
-use Rattle.std.proofs.Common.{◌≡◌, ◌-◌, ◌≤◌, length, drop}
+use Rattle.std.proofs.Common.{◌≡◌, take}
 use Rattle.bridge_fdb.specs.Stations.{live_at}
+use Rattle.savi_core.specs.VlanSets.{of_sets}
 use Rattle.savi_core.specs.Turns.{with_stations}
-use Rattle.savi_core.proofs.Keeping.{with_left}
 use Rattle.savi_core.proofs.turning.keep_stations.Given as goal
 
-abbrev pub invariant-loop-station : goal.invariant-loop-station
-invariant-loop-station l = record {
-  kept : with_left (live_at l.t (drop l.from l.fdb)) l.into ≡ with_stations (live_at l.t l.fdb) l.fn.into;
-  within : l.from ≤ length l.fdb;
-}
-
-abbrev pub decreases-loop-station : goal.decreases-loop-station
-decreases-loop-station l = length l.fdb - l.from
+abbrev pub invariant-loop-set : goal.invariant-loop-set
+invariant-loop-set l = l.into ≡ with_stations (of_sets (λ set. live_at l.t set.fdb) (take l.set-index l.sets)) l.fn.into

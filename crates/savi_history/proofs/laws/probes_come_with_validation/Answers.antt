@@ -8,4 +8,4 @@ pub returns-clause-marks : goal.returns-clause-marks
 returns-clause-marks c = λ plan base past off. operators_marks plan base off past
 
 pub returns-clause-judged : goal.returns-clause-judged
-returns-clause-judged c = λ plan base past port stamp octets off unshut. judged_plainly plan base off past port stamp octets unshut
+returns-clause-judged c = λ plan base past port stamp octets vlan off unshut is. judged_plainly plan base off past port stamp octets vlan unshut is

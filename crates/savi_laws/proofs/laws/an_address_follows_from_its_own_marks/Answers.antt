@@ -6,5 +6,5 @@ returns c = record {
   state = λ plan base other_base past other t vlan a start same. address_same plan base other_base past other vlan a start same t;
   verdict = λ plan base other_base past other t vlan port a start same room. verdict_same plan base other_base past other vlan a start same t port room;
   probe = λ plan base other_base past other t vlan port a start same room. probe_same plan base other_base past other vlan a start same t port room;
-  step = λ plan base past port stamp octets ip read comes. frame_step plan base past port stamp octets ip read comes;
+  step = λ plan base past port stamp vlan octets ip read comes. frame_step plan base past port stamp vlan octets ip read comes;
 }

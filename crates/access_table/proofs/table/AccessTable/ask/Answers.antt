@@ -16,10 +16,10 @@ on_ok (Err e) o is holds then = tt
 
 pub returns-clause-asked : goal.returns-clause-asked
 returns-clause-asked c =
-    let new : Kept = record { addresses = c.self.inside.addresses; requests = c.request.new.self } in
+    let new : Kept = record { vlan = c.self.inside.vlan; addresses = c.self.inside.addresses; requests = c.request.new.self } in
     let port = c.args.port in
     let tid = c.args.tid in
     let duid = c.args.duid.now in
-    subst (λ (old : Kept). OnOk c.request.result ((r : AccessRules) → r.addresses.vlan_of (number_of port) ≡ Some 1 → Moves r c.args.t old new (λ base past. Asked 1 (request_of port tid duid c.args.t) ∷ past))) c.self.view_is
+    subst (λ (old : Kept). OnOk c.request.result ((r : AccessRules) → r.addresses.vlan_of (number_of port) ≡ Some old.vlan → Moves r c.args.t old new (λ base past. Asked old.vlan (request_of port tid duid c.args.t) ∷ past))) c.self.view_is
     (on_ok c.request.result _ c.request.ensures.refusal c.request.ensures.asked
-    (λ free opened. λ r own base past is. asked_stands r base past c.args.t c.requires.moment (record { addresses = c.self.inside.addresses; requests = c.self.inside.requests }) is port tid duid own free new refl opened))
+    (λ free opened. λ r own base past is. asked_stands r base past c.args.t c.requires.moment (record { vlan = c.self.inside.vlan; addresses = c.self.inside.addresses; requests = c.self.inside.requests }) is port tid duid own free new refl refl opened))

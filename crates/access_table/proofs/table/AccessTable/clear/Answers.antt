@@ -7,5 +7,5 @@ use Rattle.access_table.proofs.table.AccessTable.clear.Goals as goal
 pub returns-clause-told : goal.returns-clause-told
 returns-clause-told c = λ port.
     told_on_link (rules_of c.args.plan.now) c.args.t c.args.self.now c.tell.new.self c.args.a.0 Clear port c.tell.result
-    (on_link_by_state (method_in c.args.plan.now c.args.a.0) (state_in c.args.self.now.addresses.rows c.args.a.0) (c.requires.ready.sound c.args.a.0) c.requires.state)
+    (on_link_by_state (method_in c.args.plan.now c.args.self.now.vlan c.args.a.0) (state_in c.args.self.now.addresses.rows c.args.a.0) (c.requires.ready.sound c.args.a.0) c.requires.state)
     tt c.tell.ensures.heard

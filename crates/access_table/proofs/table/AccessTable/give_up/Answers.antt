@@ -10,5 +10,5 @@ use Rattle.access_table.proofs.table.AccessTable.give_up.Goals as goal
 pub returns-clause-told : goal.returns-clause-told
 returns-clause-told c =
     let r : AccessRules = rules_of c.args.plan.now in
-    subst (λ b. Moves r c.args.t c.args.self.now c.tell_each.new.self (λ base past. if b then with_events r base 1 c.args.port c.args.t (λ lease. Release c.args.port) c.args.dhcp.now.leases.items past else past)) (sym (sym c.gives_up.ensures ∙ c.if-not-gives_up.false))
-    (subst (λ (leases : List Offered). Moves r c.args.t c.args.self.now c.tell_each.new.self (λ base past. with_events r base 1 c.args.port c.args.t (λ lease. Release c.args.port) leases past)) c.as_slice.ensures.value (c.tell_each.ensures.told c.args.port c.requires.port))
+    subst (λ b. Moves r c.args.t c.args.self.now c.tell_each.new.self (λ base past. if b then with_events r base c.args.self.now.vlan c.args.port c.args.t (λ lease. Release c.args.port) c.args.dhcp.now.leases.items past else past)) (sym (sym c.gives_up.ensures ∙ c.if-not-gives_up.false))
+    (subst (λ (leases : List Offered). Moves r c.args.t c.args.self.now c.tell_each.new.self (λ base past. with_events r base c.args.self.now.vlan c.args.port c.args.t (λ lease. Release c.args.port) leases past)) c.as_slice.ensures.value (c.tell_each.ensures.told c.args.port c.requires.port))

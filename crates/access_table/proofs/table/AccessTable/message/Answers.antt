@@ -8,4 +8,4 @@ use Rattle.access_table.proofs.table.AccessTable.message.Goals as goal
 pub returns-in-Some-clause-judged : goal.returns-in-Some-clause-judged
 returns-in-Some-clause-judged c = λ base past is.
     let r : AccessRules = rules_of c.args.plan.now in
-    subst (λ (s : Option ℕ). ComesTo r base c.args.t c.event.new.self c.event.result (message_by r base 1 c.args.port c.args.t past c.args.read.now s)) c.in-Some.ensures (c.event.ensures.judged c.args.port base past is)
+    subst (λ (s : Option ℕ). ComesTo r base c.args.t c.event.new.self c.event.result (message_by r base c.args.self.now.vlan c.args.port c.args.t past c.args.read.now s)) c.in-Some.ensures (c.event.ensures.judged c.args.port base past is)

@@ -6,7 +6,7 @@ use Rattle.addr_table.proofs.table.AddrTable.age_to.Given as goal
 
 abbrev pub invariant-loop-sent : goal.invariant-loop-sent
 invariant-loop-sent g l = record {
-  sink : fold g.S.ProbeSink.after l.sink (sends l.self.times l.t l.self.rows) ≡ fold g.S.ProbeSink.after l.initial.sink (sends l.initial.self.times l.t l.initial.self.rows);
+  sink : fold (λ taker sent. g.S.ProbeSink.after taker l.vlan sent) l.sink (sends l.self.times l.t l.self.rows) ≡ fold (λ taker sent. g.S.ProbeSink.after taker l.vlan sent) l.initial.sink (sends l.initial.self.times l.t l.initial.self.rows);
   rows : aged_rows l.self.times l.t l.self.rows ≡ aged_rows l.initial.self.times l.t l.initial.self.rows;
   sound : StaySound l.initial.self.rows l.self.rows;
   rest : l.self ≡ record l.initial.self { rows = l.self.rows };

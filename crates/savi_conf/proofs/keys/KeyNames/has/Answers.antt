@@ -1,33 +1,16 @@
-use Rattle.std.proofs.Common.{sym, ◌∙◌, inl, inr, IsTrue}
-use Rattle.savi_conf.proofs.KeysLemmas.{known-texts, known-integers, known-arrays, known-cases}
+use Rattle.std.proofs.Common.{inl, inr}
+use Rattle.savi_conf.proofs.Both.{refuted}
+use Rattle.savi_conf.proofs.KeysLemmas.{known-cases, known-lists, known-others}
 use Rattle.savi_conf.proofs.keys.KeyNames.has.Goals as goal
-use Rattle.savi_conf.proofs.keys.KeyNames.has.Goals.{then-is_among, else-is_among}
 
-pub returns-then-is_among-2 : goal.returns-then-is_among-2
-returns-then-is_among-2 c =
-    let names = c.args.self.now in
-    let key = c.args.key.now in (
-      λ _. elim c.if-is_among.branch [
-        | then-is_among w ↦ known-texts names key (c.is_among.ensures.0 w.if-is_among.true)
-        | else-is_among w ↦ known-integers names key (w.is_among-else-is_among.ensures.0 (sym w.value-is ∙ c.if-is_among-2.true))
-      ],
-      λ _. c.if-is_among-2.true,
-    )
+pub returns-then-has_other : goal.returns-then-has_other
+returns-then-has_other c = (λ _. known-others c.args.self.now c.args.key.now (c.has_other.ensures.0 c.if-has_other.true), λ _. c.if-has_other.true)
 
-pub returns-else-is_among-2 : goal.returns-else-is_among-2
-returns-else-is_among-2 c =
-    let names = c.args.self.now in
-    let key = c.args.key.now in (
-      λ found. known-arrays names key (c.is_among-else-is_among-2.ensures.0 found),
-      λ is. elim (known-cases names key is) [
-        | inl (inl texts) ↦ elim c.if-is_among.branch [
-          | then-is_among w ↦ absurd cc
-          | else-is_among w ↦ let yes : IsTrue c.is_among.result = c.is_among.ensures.1 texts in absurd cc
-        ]
-        | inl (inr integers) ↦ elim c.if-is_among.branch [
-          | then-is_among w ↦ absurd cc
-          | else-is_among w ↦ let yes : IsTrue w.is_among-else-is_among.result = w.is_among-else-is_among.ensures.1 integers in absurd cc
-        ]
-        | inr arrays ↦ c.is_among-else-is_among-2.ensures.1 arrays
-      ],
-    )
+pub returns-else-has_other : goal.returns-else-has_other
+returns-else-has_other c = (
+  λ found. known-lists c.args.self.now c.args.key.now (c.is_among.ensures.0 found),
+  λ is. elim (known-cases c.args.self.now c.args.key.now is) [
+    | inl other ↦ absurd (refuted c.has_other.result c.if-has_other.false c.has_other.ensures other)
+    | inr list ↦ c.is_among.ensures.1 list
+  ],
+)

@@ -1,7 +1,6 @@
-use Rattle.std.proofs.Common.{◌≡◌, ◌≤◌, min, take, map, get_or, length, reverse, sym, subst, ap, ◌∙◌, arith, true, refl, []}
+use Rattle.std.proofs.Common.{◌≡◌, ◌≤◌, min, take, length, reverse, sym, subst, ap, ◌∙◌, arith, true, refl, []}
 use Rattle.std.proofs.lemmas.List.{nil_from_length}
 use Rattle.savi_kinds.specs.Ports.{number_of}
-use Rattle.savi_kinds.specs.declared.plan.Plan.{Plan}
 use Rattle.savi_kinds.specs.declared.entry.Entry.{Entry}
 use Rattle.savi_kinds.specs.declared.entry.Who.TheVariants.{Egress}
 use Rattle.checkpoint.specs.Columns.{kept_base as base_kept}
@@ -14,12 +13,10 @@ use Rattle.savi_core.specs.Machines.{Machine, queue_at, with_event}
 use Rattle.savi_core.specs.Steps.{entry_of, taken_count}
 use Rattle.savi_core.specs.Lanes.{Lane, no_lane}
 use Rattle.savi_core.specs.Rings.{Rings}
-use Rattle.savi_core.specs.Waits.{queued_item}
 use Rattle.savi_core.proofs.Remembering.{waits_at}
 use Rattle.savi_core.proofs.Showing.{lane_at, lane_in, there_in}
 use Rattle.savi_core.proofs.Stepping.{row, drain_fits, remembers_drain, stepped_view}
-use Rattle.savi_core.proofs.Knowing.{knows_drain}
-use Rattle.savi_core.proofs.Telling.{tells_drain}
+use Rattle.savi_core.proofs.Together.{all_drain}
 use Rattle.savi_core.proofs.Shutting.{shut_as}
 use Rattle.savi_core.proofs.Refusing.{no_refusal}
 use Rattle.savi_core.proofs.Tallying.{counted_too}
@@ -84,13 +81,12 @@ invariant_of-self c =
       c.self.invariant.1,
       c.self.invariant.2,
       c.self.invariant.3,
-      knows_drain c.self.invariant.0 inside.fdb c.self.invariant.4 c.args.port count e e_is,
-      tells_drain c.self.invariant.0 inside.access c.self.invariant.5 c.args.port count e e_is,
+      all_drain c.self.invariant.0 inside.sets.items c.self.invariant.4 c.args.port count e e_is,
       no_refusal c.self.invariant.0 (events.Drain c.args.port count) e [] inside.refused e_is tt,
-      counted_too c.self.invariant.0 inside.tally c.add.new.self e [] c.self.invariant.7 c.add.ensures,
-      ends_still c.self.invariant.0 inside.ends c.self.invariant.8 (events.Drain c.args.port count) e [] e_is tt,
+      counted_too c.self.invariant.0 inside.tally c.add.new.self e [] c.self.invariant.6 c.add.ensures,
+      ends_still c.self.invariant.0 inside.ends c.self.invariant.7 (events.Drain c.args.port count) e [] e_is tt,
+      c.self.invariant.8,
       c.self.invariant.9,
-      c.self.invariant.10,
     )
 
 pub returns : goal.returns
@@ -110,8 +106,7 @@ returns c =
     let count_is : count ≡ taken_count m port c.args.most = c.min-count.ensures ∙ ap (min c.args.most) waits in
     let e_is = subst (λ (x : Machine). e ≡ entry_of x (events.Drain port count)) (sym c.self.view_is) c.drain_entry-entry.ensures in (
       (λ none. c.if-count-eq0.false (omega (arith, count_is, ap length none))),
-      c.drain.ensures.taken ∙ ap (λ (p : Plan). take count (map (queued_item p.mac rows) (get_or inside.queues.lanes c.place_of-place.result no_lane).items)) c.plan.ensures.plan
-          ∙ ap (take count) (items_are ∙ queue_is) ∙ ap (λ n. take n (queue_at m port)) count_is,
+      c.drain.ensures.taken ∙ ap (take count) (items_are ∙ queue_is) ∙ ap (λ n. take n (queue_at m port)) count_is,
       rw c.append.ensures (stepped_view inside.ports c.self.inside.checkpoint rows e [] (events.Drain port count) m c.self.view_is (ap (λ (x : Entry). row x []) e_is)
           ∙ ap (λ n. with_event m (events.Drain port n)) count_is),
       c.drain_entry-entry.ensures ∙ ap (λ n. entry_of m (events.Drain port n)) count_is,

@@ -13,8 +13,7 @@ use Rattle.savi_core.proofs.Places.{pass_within}
 use Rattle.savi_core.proofs.Remembering.{pass_small}
 use Rattle.savi_core.proofs.Showing.{lane_count}
 use Rattle.savi_core.proofs.Stepping.{row, end_fits, remembers_pass}
-use Rattle.savi_core.proofs.Knowing.{knows_end}
-use Rattle.savi_core.proofs.Telling.{tells_end}
+use Rattle.savi_core.proofs.Together.{all_end}
 use Rattle.savi_core.proofs.Shutting.{shut_as}
 use Rattle.savi_core.proofs.Refusing.{no_refusal}
 use Rattle.savi_core.proofs.Tallying.{counted_too}
@@ -56,7 +55,7 @@ put-requires-clause-running c =
     let e_is = subst (λ (m : Machine). e ≡ entry_of m event) (sym c.self.view_is) c.end_entry-entry.ensures in
     let pass = pass_of inside.ports c.args.who in
     ap (λ (x : Entry). get_or inside.ends.ends x.by None) e_is
-    ∙ c.self.invariant.8.ends pass (pass_within inside.ports c.args.who may.0.known)
+    ∙ c.self.invariant.7.ends pass (pass_within inside.ports c.args.who may.0.known)
     ∙ end_none (base_kept inside.checkpoint) pass (reverse inside.hist.rows) may.0.running
 
 pub end-requires-clause-running : goal.end-requires-clause-running
@@ -96,11 +95,10 @@ invariant_of-self c =
       c.self.invariant.1,
       c.self.invariant.2,
       ap (λ (m : PassMarks). m.inputs) c.end.ensures ∙ c.self.invariant.3,
-      knows_end c.self.invariant.0 c.self.inside.fdb c.self.invariant.4 c.args.who c.args.how e e_is,
-      tells_end c.self.invariant.0 c.self.inside.access c.self.invariant.5 c.args.who c.args.how e e_is,
+      all_end c.self.invariant.0 c.self.inside.sets.items c.self.invariant.4 c.args.who c.args.how e e_is,
       no_refusal c.self.invariant.0 event e [] c.self.inside.refused e_is tt,
-      counted_too c.self.invariant.0 c.self.inside.tally c.add.new.self e [] c.self.invariant.7 c.add.ensures,
-      subst (λ (m : EndMarks). AreEnds c.self.inside.ports (base_kept c.self.inside.checkpoint) (reverse (c.self.inside.hist.rows ++ row e [] ∷ [])) m) (sym c.put.ensures) (ends_ended c.self.invariant.0 c.self.inside.ends c.self.invariant.8 c.args.who c.args.how e e_is (small c)),
+      counted_too c.self.invariant.0 c.self.inside.tally c.add.new.self e [] c.self.invariant.6 c.add.ensures,
+      subst (λ (m : EndMarks). AreEnds c.self.inside.ports (base_kept c.self.inside.checkpoint) (reverse (c.self.inside.hist.rows ++ row e [] ∷ [])) m) (sym c.put.ensures) (ends_ended c.self.invariant.0 c.self.inside.ends c.self.invariant.7 c.args.who c.args.how e e_is (small c)),
+      c.self.invariant.8,
       c.self.invariant.9,
-      c.self.invariant.10,
     )

@@ -1,24 +1,27 @@
-use Rattle.std.proofs.Common.{ℕ, Bool, ◌&&◌, not, ◌≡◌, ◌≤◌, ◌^◌, min, max, map, length, reverse, true, refl, sym, subst, ap, ◌∙◌, arith}
-use Rattle.savi_kinds.specs.declared.plan.Plan.{Plan}
+use Rattle.std.proofs.Common.{ℕ, ◌≡◌, ◌≤◌, ◌^◌, min, max, map, length, reverse, true, refl, sym, subst, ap, ◌∙◌, arith, All, Option, ◌<◌}
+use Rattle.std.proofs.lemmas.List.{with_items_is}
+use Rattle.savi_kinds.specs.declared.port.Port.{Port}
+use Rattle.eth_frame.specs.declared.vlan_tag.Tag.{Tag}
 use Rattle.savi_kinds.specs.Ports.{number_of}
-use Rattle.savi_kinds.specs.ValidPlan.{IsValidPlan}
+use Rattle.savi_kinds.specs.Vlans.{vlan_among, vlans_of}
 use Rattle.savi_kinds.specs.declared.entry.Entry.{Entry}
 use Rattle.savi_kinds.specs.declared.entry.Act.{Act}
 use Rattle.savi_kinds.specs.declared.entry.Act.TheVariants as acts
 use Rattle.egress_ring.specs.declared.item.Item.TheVariants as queued
 use Rattle.hist_store.specs.Rows.{held, KeepsOctets}
 use Rattle.savi_access.specs.Plans.{rules_of}
-use Rattle.access_table.specs.Kept.{IsAgedTo}
 use Rattle.checkpoint.specs.Columns.{kept_base as base_kept}
 use Rattle.checkpoint.specs.Bases.{access_of}
-use Rattle.savi_history.specs.Vlans.{the_vlan}
-use Rattle.savi_history.specs.Passes.{has_port}
+use Rattle.savi_history.specs.Vlans.{vlan_at_port, vlan_of_frame}
 use Rattle.savi_history.specs.Moments.{moment_at}
 use Rattle.savi_history.specs.Marks.{marks}
-use Rattle.savi_history.specs.Outs.{outs_by, without_shut, outs}
+use Rattle.savi_history.specs.Outs.{outs}
 use Rattle.savi_history.specs.Queues.{probes, lost}
 use Rattle.savi_history.specs.Events as events
 use Rattle.savi_history.specs.Legal.{MayCome}
+use Rattle.savi_core.specs.Knows.{Knows}
+use Rattle.savi_core.specs.Origins.{known_at, outs_from, teaches_at}
+use Rattle.savi_core.specs.VlanSets.{AreAgedTo, fdb_at, vlan_of_place, vlans_of_sets}
 use Rattle.savi_core.specs.Machines.{Machine, base_of}
 use Rattle.savi_core.specs.Steps.{entry_of}
 use Rattle.savi_core.specs.Lanes.{with_frame}
@@ -28,9 +31,8 @@ use Rattle.frame_class.specs.Classes.{eth_of}
 use Rattle.bridge_fdb.specs.Stations.{live_at}
 use Rattle.savi_kinds.specs.PortSets.{is_member}
 use Rattle.savi_history.specs.ShutPorts.{is_shut}
-use Rattle.savi_history.specs.Stations.{port_among}
 use Rattle.savi_core.specs.Rings.{Rings, shut_in}
-use Rattle.savi_core.proofs.Shutting.{shut_judged, shut_as, open_outs}
+use Rattle.savi_core.proofs.Shutting.{shut_judged, shut_as}
 use Rattle.savi_core.proofs.Refusing.{no_refusal}
 use Rattle.savi_core.proofs.Tallying.{counted_too}
 use Rattle.savi_core.proofs.Over.{ends_still}
@@ -38,8 +40,9 @@ use Rattle.savi_core.specs.Judges.{Judges}
 use Rattle.savi_core.proofs.Showing.{lane_numbers, cuts_are}
 use Rattle.savi_core.proofs.Remembering.{room_for, held-reverse}
 use Rattle.savi_core.proofs.FrameEntries.{made, frame_entry_is}
-use Rattle.savi_core.proofs.Knowing.{place_is, knows_frame}
-use Rattle.savi_core.proofs.Telling.{tells_frame}
+use Rattle.savi_core.proofs.Knowing.{same_known, taught_if, within_sets}
+use Rattle.savi_core.proofs.Going.{AreOpen, goes, whole}
+use Rattle.savi_core.proofs.Together.{all_frame, all_ready, lent_too, of_plan}
 use Rattle.savi_core.proofs.AgedAndJudged.{early_now, judged_here, verdict_now, states_after, shows_framed, counts_framed}
 use Rattle.savi_core.proofs.Stepping.{row, may_frame, remembers_frame, stepped_view}
 use Rattle.savi_core.proofs.machine.Core.enter_frame.Goals as goal
@@ -47,42 +50,53 @@ use Rattle.savi_core.proofs.machine.Core.enter_frame.Goals as goal
 moment_is : (c : goal.After-append) → c.moment_at-moment.result ≡ moment_at (base_kept c.self.inside.checkpoint) (reverse c.self.inside.hist.rows) c.args.stamp
 moment_is c = c.moment_at-moment.ensures ∙ ap (λ n. max n (min c.args.stamp (2 ^ 62))) c.self.invariant.0.last
 
-pub judge-verdict-requires-clause-plan : goal.judge-verdict-requires-clause-plan
-judge-verdict-requires-clause-plan c = subst IsValidPlan (sym c.plan.ensures.plan) c.self.invariant.0.valid
+-- the VLAN of the frame
+vlan_is : (c : goal.After-append) → vlan_of_place c.self.inside.ports c.origin_of-origin.result.set ≡ vlan_of_frame c.self.inside.ports (number_of c.args.port) c.args.octets.now
+vlan_is c =
+    c.origin_of-origin.ensures.vlan ∙ ap (λ (t : Tag). vlan_at_port (vlan_among c.self.inside.ports.ports (number_of c.args.port)) t) c.requires.seen.tag
 
-pub judge-verdict-requires-clause-port : goal.judge-verdict-requires-clause-port
-judge-verdict-requires-clause-port c =
-    let known : has_port c.self.inside.ports (number_of c.args.port) ≡ true = ap (λ (m : Machine). has_port m.plan (number_of c.args.port)) c.self.view_is ∙ c.requires.may.0.known in
-    subst (λ (p : Plan). has_port p (number_of c.args.port) ≡ true) (sym c.plan.ensures.plan) known
+pub judge-verdict-requires-clause-vlans : goal.judge-verdict-requires-clause-vlans
+judge-verdict-requires-clause-vlans c = (lent_too c.as_mut_slice-sets.ensures.value c.self.invariant.4).vlans
 
 pub judge-verdict-requires-clause-moment : goal.judge-verdict-requires-clause-moment
 judge-verdict-requires-clause-moment c = early_now c.self.invariant.0 c.args.stamp c.moment_at-moment.result (c.moment_at-moment.ensures ∙ ap (λ n. max n (min c.args.stamp (2 ^ 62))) c.self.invariant.0.last)
 
 pub judge-verdict-requires-clause-ready : goal.judge-verdict-requires-clause-ready
-judge-verdict-requires-clause-ready c = subst (λ (p : Plan). IsAgedTo (rules_of p) c.self.inside.moment c.self.inside.access) (sym c.plan.ensures.plan) c.self.invariant.5.ready
+judge-verdict-requires-clause-ready c = all_ready c.self.inside.ports (base_kept c.self.inside.checkpoint) (reverse c.self.inside.hist.rows) c.self.inside.moment c.as_mut_slice-sets.result.now (lent_too c.as_mut_slice-sets.ensures.value c.self.invariant.4)
 
 -- what the judgement leaves
-judges : (c : goal.After-append) → Judges (rules_of c.self.inside.ports) c.self.inside.moment c.moment_at-moment.result (shut_in c.self.inside.queues.shut (number_of c.args.port)) c.args.port c.args.class.now c.judge-verdict.new.access c.self.inside.queues c.judge-verdict.new.queues c.judge-verdict.result (access_of (base_kept c.self.inside.checkpoint)) (marks c.self.inside.ports (base_kept c.self.inside.checkpoint) (reverse c.self.inside.hist.rows))
+judges : (c : goal.After-append) → Judges (rules_of c.self.inside.ports) c.self.inside.moment c.moment_at-moment.result (shut_in c.self.inside.queues.shut (number_of c.args.port)) c.args.port (vlan_of_place c.self.inside.ports c.origin_of-origin.result.set) c.args.seen.now.class c.judge-verdict.new.sets c.self.inside.queues c.judge-verdict.new.queues c.judge-verdict.result (access_of (base_kept c.self.inside.checkpoint)) (marks c.self.inside.ports (base_kept c.self.inside.checkpoint) (reverse c.self.inside.hist.rows))
 judges c =
     let inside = c.self.inside in
-    judged_here c.self.invariant.0 inside.access c.self.invariant.5 c.plan.result.now c.plan.ensures.plan c.moment_at-moment.result (omega (arith, c.moment_at-moment.ensures)) (shut_in c.self.inside.queues.shut (number_of c.args.port)) c.args.port c.args.class.now c.judge-verdict.new.access inside.queues c.judge-verdict.new.queues c.judge-verdict.result c.judge-verdict.ensures.judged
+    let origin = c.origin_of-origin.result in
+    let vlan = vlan_of_place inside.ports origin.set in
+    subst (λ (p : Port). Judges (rules_of inside.ports) inside.moment c.moment_at-moment.result (shut_in inside.queues.shut (number_of p)) p vlan c.args.seen.now.class c.judge-verdict.new.sets inside.queues c.judge-verdict.new.queues c.judge-verdict.result (access_of (base_kept inside.checkpoint)) (marks inside.ports (base_kept inside.checkpoint) (reverse inside.hist.rows))) c.origin_of-origin.ensures.port
+    (judged_here c.self.invariant.0 c.as_mut_slice-sets.result.now (lent_too c.as_mut_slice-sets.ensures.value c.self.invariant.4) inside.ports refl c.moment_at-moment.result (omega (arith, c.moment_at-moment.ensures)) (shut_in inside.queues.shut (number_of origin.port)) origin.port vlan c.args.seen.now.class c.judge-verdict.new.sets inside.queues c.judge-verdict.new.queues c.judge-verdict.result c.judge-verdict.ensures.judged)
 
-ready : (c : goal.After-append) → IsAgedTo (rules_of c.self.inside.ports) (moment_at (base_kept c.self.inside.checkpoint) (reverse c.self.inside.hist.rows) c.args.stamp) c.judge-verdict.new.access
-ready c =
-    subst (λ (t : ℕ). IsAgedTo (rules_of c.self.inside.ports) t c.judge-verdict.new.access) (moment_is c)
-    (subst (λ (p : Plan). IsAgedTo (rules_of p) c.moment_at-moment.result c.judge-verdict.new.access) c.plan.ensures.plan c.judge-verdict.ensures.ready)
+ready : (c : goal.After-append) → AreAgedTo (rules_of c.self.inside.ports) (moment_at (base_kept c.self.inside.checkpoint) (reverse c.self.inside.hist.rows) c.args.stamp) c.judge-verdict.new.sets
+ready c = subst (λ (t : ℕ). AreAgedTo (rules_of c.self.inside.ports) t c.judge-verdict.new.sets) (moment_is c) c.judge-verdict.ensures.ready
+
+-- the sets are those of the plan's VLANs, and of each the same stations are known
+in_plan : (c : goal.After-append) → vlans_of_sets c.judge-verdict.new.sets ≡ vlans_of c.self.inside.ports
+in_plan c = of_plan c.self.invariant.0 c.as_mut_slice-sets.result.now (lent_too c.as_mut_slice-sets.ensures.value c.self.invariant.4) c.judge-verdict.new.sets c.judge-verdict.ensures.rest
+
+known_still : (c : goal.After-append) → All (Knows c.self.inside.ports (base_kept c.self.inside.checkpoint) (reverse c.self.inside.hist.rows) c.self.inside.moment) c.judge-verdict.new.sets
+known_still c = same_known c.self.inside.ports (base_kept c.self.inside.checkpoint) (reverse c.self.inside.hist.rows) c.self.inside.moment c.as_mut_slice-sets.result.now c.judge-verdict.new.sets c.judge-verdict.ensures.rest (lent_too c.as_mut_slice-sets.ensures.value c.self.invariant.4).know
+
+pub outs-outs-requires-clause-vlans : goal.outs-outs-requires-clause-vlans
+outs-outs-requires-clause-vlans c = of_plan c.self.invariant.0 c.as_mut_slice-sets.result.now (lent_too c.as_mut_slice-sets.ensures.value c.self.invariant.4) c.judge-verdict.new.sets c.judge-verdict.ensures.rest
 
 -- the lanes before the frame is offered
 before : (c : goal.After-append) → Show c.self.inside.ports c.self.inside.hist.rows c.judge-verdict.new.queues.lanes (probed_lane c.self.inside.ports (base_kept c.self.inside.checkpoint) (reverse c.self.inside.hist.rows) (events.frame_act (reverse c.self.inside.hist.rows) c.args.port c.args.stamp c.args.octets.now) c.args.octets.now)
 before c =
     let inside = c.self.inside in
-    shows_framed c.self.invariant.0 inside.access c.self.invariant.5 c.judge-verdict.new.access inside.queues c.judge-verdict.new.queues refl refl c.moment_at-moment.result c.args.stamp (moment_is c) c.args.port c.args.octets.now c.args.class.now c.requires.class c.judge-verdict.result (judges c)
+    shows_framed c.self.invariant.0 c.as_mut_slice-sets.result.now (lent_too c.as_mut_slice-sets.ensures.value c.self.invariant.4) c.judge-verdict.new.sets (in_plan c) inside.queues c.judge-verdict.new.queues refl refl c.moment_at-moment.result c.args.stamp (moment_is c) c.args.port c.args.octets.now (vlan_of_place inside.ports c.origin_of-origin.result.set) (vlan_is c) c.args.seen.now.class c.requires.seen.class c.judge-verdict.result (judges c)
 
 counts : (c : goal.After-append) → (c.judge-verdict.new.queues.queued ≡ probes c.self.inside.ports (base_kept c.self.inside.checkpoint) (reverse c.self.inside.hist.rows) (events.frame_act (reverse c.self.inside.hist.rows) c.args.port c.args.stamp c.args.octets.now) c.args.octets.now)
     × (c.judge-verdict.new.queues.lost ≡ lost c.self.inside.ports (base_kept c.self.inside.checkpoint) (reverse c.self.inside.hist.rows) (events.frame_act (reverse c.self.inside.hist.rows) c.args.port c.args.stamp c.args.octets.now) c.args.octets.now)
 counts c =
     let inside = c.self.inside in
-    counts_framed c.self.invariant.0 inside.access c.self.invariant.5 c.judge-verdict.new.access inside.queues c.judge-verdict.new.queues refl refl c.moment_at-moment.result c.args.stamp (moment_is c) c.args.port c.args.octets.now c.args.class.now c.requires.class c.judge-verdict.result (judges c)
+    counts_framed c.self.invariant.0 c.as_mut_slice-sets.result.now (lent_too c.as_mut_slice-sets.ensures.value c.self.invariant.4) c.judge-verdict.new.sets (in_plan c) inside.queues c.judge-verdict.new.queues refl refl c.moment_at-moment.result c.args.stamp (moment_is c) c.args.port c.args.octets.now (vlan_of_place inside.ports c.origin_of-origin.result.set) (vlan_is c) c.args.seen.now.class c.requires.seen.class c.judge-verdict.result (judges c)
 
 may : (c : goal.After-append) → MayCome c.self.inside.ports (base_kept c.self.inside.checkpoint) (reverse c.self.inside.hist.rows) (events.Frame c.args.port c.args.stamp c.args.octets.now)
 may c =
@@ -91,10 +105,23 @@ may c =
 
 -- the ports that are shut stay so
 still_shut : (c : goal.After-append) → c.judge-verdict.new.queues.shut ≡ c.self.inside.queues.shut
-still_shut c = shut_judged _ _ _ _ _ _ _ c.self.inside.queues c.judge-verdict.new.queues _ _ _ (judges c)
+still_shut c = shut_judged _ _ _ _ _ _ _ _ c.self.inside.queues c.judge-verdict.new.queues _ _ _ (judges c)
 
 shut_now : (c : goal.After-append) → shut_in c.judge-verdict.new.queues.shut ≡ (λ number. is_shut c.self.inside.ports (base_kept c.self.inside.checkpoint) number (reverse c.self.inside.hist.rows))
 shut_now c = ap shut_in (still_shut c) ∙ c.self.invariant.0.shut_ports
+
+-- the ports to which the frame goes
+open_now : (c : goal.After-append) → AreOpen (outs_from c.self.inside.ports (vlan_of_place c.self.inside.ports c.origin_of-origin.result.set) (number_of c.args.port) (known_at c.judge-verdict.new.sets c.origin_of-origin.result.set c.moment_at-moment.result (eth_of c.args.seen.now.class)) c.judge-verdict.result) (shut_in c.judge-verdict.new.queues.shut) c.outs-outs.result
+open_now c =
+    subst (λ (p : Port). AreOpen (outs_from c.self.inside.ports (vlan_of_place c.self.inside.ports c.origin_of-origin.result.set) (number_of p) (known_at c.judge-verdict.new.sets c.origin_of-origin.result.set c.moment_at-moment.result (eth_of c.args.seen.now.class)) c.judge-verdict.result) (shut_in c.judge-verdict.new.queues.shut) c.outs-outs.result)
+    c.origin_of-origin.ensures.port c.outs-outs.ensures.outs
+
+whole_frame : (c : goal.After-append) → (n : ℕ) → is_member c.outs-outs.result n ≡ true → 14 ≤ length c.args.octets.now
+whole_frame c =
+    let inside = c.self.inside in
+    let set = c.origin_of-origin.result.set in
+    whole (rules_of inside.ports) (access_of (base_kept inside.checkpoint)) (shut_in inside.queues.shut (number_of c.args.port)) (marks inside.ports (base_kept inside.checkpoint) (reverse inside.hist.rows)) c.args.port c.moment_at-moment.result (vlan_of_place inside.ports set) c.args.seen.now.class c.args.octets.now c.judge-verdict.result c.requires.seen.class (judges c).verdict_is
+    inside.ports (number_of c.args.port) (known_at c.judge-verdict.new.sets set c.moment_at-moment.result (eth_of c.args.seen.now.class)) (shut_in c.judge-verdict.new.queues.shut) c.outs-outs.result (open_now c)
 
 -- the entry is that of the frame's row, by what the core keeps
 abbrev inner : (c : goal.After-append) → Machine
@@ -116,15 +143,15 @@ inner_is c =
     let act = events.frame_act past port stamp octets in
     let verdict = c.judge-verdict.result in
     let later : inside.moment ≤ c.moment_at-moment.result = omega (arith, c.moment_at-moment.ensures) in
+    let set = c.origin_of-origin.result.set in
     frame_entry_is (inner c) port stamp octets c.pass_of-by.result c.moment_at-moment.result c.frame_act-act.result verdict c.outs-outs.result c.offer_frame-cuts.result c.queued.result c.lost.result
     c.pass_of-by.ensures
     (moment_is c)
     (act_is c)
-    (verdict_now c.self.invariant.0 inside.access c.self.invariant.5 c.judge-verdict.new.access inside.queues c.judge-verdict.new.queues refl refl c.moment_at-moment.result stamp (moment_is c) port octets c.args.class.now c.requires.class verdict (judges c))
-    (open_outs inside.ports (base_kept c.self.inside.checkpoint) past (outs_by inside.ports (number_of port) (port_among (live_at c.moment_at-moment.result inside.fdb) (eth_of c.args.class.now)) verdict) c.outs-outs.result c.outs-outs.ensures.known
-    (λ n least. c.outs-outs.ensures.outs n least ∙ ap (λ (shut : ℕ → Bool). is_member (outs_by inside.ports (number_of port) (port_among (live_at c.moment_at-moment.result inside.fdb) (eth_of c.args.class.now)) verdict) n && not (shut n)) (shut_now c))
-    ∙ ap (λ known. without_shut inside.ports (base_kept c.self.inside.checkpoint) past (outs_by inside.ports (number_of port) known verdict)) (place_is inside.fdb inside.moment c.moment_at-moment.result (base_kept c.self.inside.checkpoint) past c.args.class.now octets later c.self.invariant.4 c.requires.class)
-    ∙ ap (λ t. outs the_vlan inside.ports (base_kept c.self.inside.checkpoint) past (number_of port) t octets verdict) (moment_is c))
+    (verdict_now c.self.invariant.0 c.as_mut_slice-sets.result.now (lent_too c.as_mut_slice-sets.ensures.value c.self.invariant.4) c.judge-verdict.new.sets (in_plan c) inside.queues c.judge-verdict.new.queues refl refl c.moment_at-moment.result stamp (moment_is c) port octets (vlan_of_place inside.ports set) (vlan_is c) c.args.seen.now.class c.requires.seen.class verdict (judges c))
+    (goes c.self.invariant.0 c.judge-verdict.new.sets (known_still c) (in_plan c) set c.origin_of-origin.ensures.origin.within (number_of port) c.moment_at-moment.result later c.args.seen.now.class octets c.requires.seen.class verdict c.outs-outs.result (shut_in c.judge-verdict.new.queues.shut) (shut_now c) c.outs-outs.ensures.known (open_now c)
+    ∙ ap (λ (own : Option ℕ). outs own inside.ports (base_kept inside.checkpoint) past (number_of port) c.moment_at-moment.result octets verdict) (vlan_is c)
+    ∙ ap (λ t. outs (vlan_of_frame inside.ports (number_of port) octets) inside.ports (base_kept inside.checkpoint) past (number_of port) t octets verdict) (moment_is c))
     (c.offer_frame-cuts.ensures.cuts ∙ cuts_are inside.ports (base_kept c.self.inside.checkpoint) past inside.hist.rows act octets c.outs-outs.result c.judge-verdict.new.queues.lanes (before c))
     (c.queued.ensures ∙ ap (λ (r : Rings). r.queued) c.offer_frame-cuts.ensures.lanes ∙ (counts c).0)
     (c.lost.ensures ∙ ap (λ (r : Rings). r.lost) c.offer_frame-cuts.ensures.lanes ∙ (counts c).1)
@@ -135,13 +162,24 @@ entry_is c = inner_is c ∙ ap (λ (m : Machine). entry_of m (events.Frame c.arg
 pub offer_frame-cuts-requires-clause-lanes : goal.offer_frame-cuts-requires-clause-lanes
 offer_frame-cuts-requires-clause-lanes c =
     let inside = c.self.inside in
+    let set = c.origin_of-origin.result.set in
+    let vlan = vlan_of_place inside.ports set in
+    let vlan_here : vlan_of_place inside.ports c.origin_of-origin.result.set ≡ vlan_of_frame inside.ports (number_of c.args.port) c.args.octets.now =
+    c.origin_of-origin.ensures.vlan ∙ ap (λ (t : Tag). vlan_at_port (vlan_among inside.ports.ports (number_of c.args.port)) t) c.requires.seen.tag in
     let moment_here : c.moment_at-moment.result ≡ moment_at (base_kept c.self.inside.checkpoint) (reverse inside.hist.rows) c.args.stamp = c.moment_at-moment.ensures ∙ ap (λ n. max n (min c.args.stamp (2 ^ 62))) c.self.invariant.0.last in
-    let judged = judged_here c.self.invariant.0 inside.access c.self.invariant.5 c.plan.result.now c.plan.ensures.plan c.moment_at-moment.result (omega (arith, c.moment_at-moment.ensures)) (shut_in c.self.inside.queues.shut (number_of c.args.port)) c.args.port c.args.class.now c.judge-verdict.new.access inside.queues c.judge-verdict.new.queues c.judge-verdict.result c.judge-verdict.ensures.judged in
-    let shows = shows_framed c.self.invariant.0 inside.access c.self.invariant.5 c.judge-verdict.new.access inside.queues c.judge-verdict.new.queues refl refl c.moment_at-moment.result c.args.stamp moment_here c.args.port c.args.octets.now c.args.class.now c.requires.class c.judge-verdict.result judged in
+    let sets = c.judge-verdict.new.sets in
+    let judged = judged_here c.self.invariant.0 c.as_mut_slice-sets.result.now (lent_too c.as_mut_slice-sets.ensures.value c.self.invariant.4) inside.ports refl c.moment_at-moment.result (omega (arith, c.moment_at-moment.ensures)) (shut_in inside.queues.shut (number_of c.origin_of-origin.result.port)) c.origin_of-origin.result.port vlan c.args.seen.now.class sets inside.queues c.judge-verdict.new.queues c.judge-verdict.result c.judge-verdict.ensures.judged in
+    let judged_there = subst (λ (p : Port). Judges (rules_of inside.ports) inside.moment c.moment_at-moment.result (shut_in inside.queues.shut (number_of p)) p vlan c.args.seen.now.class sets inside.queues c.judge-verdict.new.queues c.judge-verdict.result (access_of (base_kept inside.checkpoint)) (marks inside.ports (base_kept inside.checkpoint) (reverse inside.hist.rows))) c.origin_of-origin.ensures.port judged in
+    let shows = shows_framed c.self.invariant.0 c.as_mut_slice-sets.result.now (lent_too c.as_mut_slice-sets.ensures.value c.self.invariant.4) sets (of_plan c.self.invariant.0 c.as_mut_slice-sets.result.now (lent_too c.as_mut_slice-sets.ensures.value c.self.invariant.4) sets c.judge-verdict.ensures.rest) inside.queues c.judge-verdict.new.queues refl refl c.moment_at-moment.result c.args.stamp moment_here c.args.port c.args.octets.now vlan vlan_here c.args.seen.now.class c.requires.seen.class c.judge-verdict.result judged_there in
     lane_numbers shows (λ q. refl)
 
-pub teach-requires : goal.teach-requires
-teach-requires c = early_now c.self.invariant.0 c.args.stamp c.moment_at-moment.result (c.moment_at-moment.ensures ∙ ap (λ n. max n (min c.args.stamp (2 ^ 62))) c.self.invariant.0.last)
+pub teach-requires-clause-moment : goal.teach-requires-clause-moment
+teach-requires-clause-moment c = early_now c.self.invariant.0 c.args.stamp c.moment_at-moment.result (c.moment_at-moment.ensures ∙ ap (λ n. max n (min c.args.stamp (2 ^ 62))) c.self.invariant.0.last)
+
+pub teach-requires-clause-within : goal.teach-requires-clause-within
+teach-requires-clause-within c =
+    let sets = c.judge-verdict.new.sets in
+    within_sets c.self.inside.ports sets (of_plan c.self.invariant.0 c.as_mut_slice-sets.result.now (lent_too c.as_mut_slice-sets.ensures.value c.self.invariant.4) sets c.judge-verdict.ensures.rest) c.origin_of-origin.result.set c.origin_of-origin.ensures.origin.within
 
 pub append-requires-clause-bytes : goal.append-requires-clause-bytes
 append-requires-clause-bytes c =
@@ -164,19 +202,21 @@ invariant_of-self c =
     let octets = c.args.octets.now in
     let e = made_now c in
     let lanes_are = ap (λ (r : Rings). r.lanes) c.offer_frame-cuts.ensures.lanes ∙ ap (λ n. map (with_frame (queued.Frame n) c.outs-outs.result) c.judge-verdict.new.queues.lanes) c.len.ensures.len in
-    let states = states_after c.self.invariant.0 inside.access c.self.invariant.5 c.judge-verdict.new.access inside.queues c.judge-verdict.new.queues refl refl c.moment_at-moment.result stamp (moment_is c) port octets c.args.class.now c.requires.class c.judge-verdict.result (judges c) in
+    let set = c.origin_of-origin.result.set in
+    let states = states_after c.self.invariant.0 c.as_mut_slice-sets.result.now (lent_too c.as_mut_slice-sets.ensures.value c.self.invariant.4) c.judge-verdict.new.sets (in_plan c) inside.queues c.judge-verdict.new.queues refl refl c.moment_at-moment.result stamp (moment_is c) port octets (vlan_of_place inside.ports set) (vlan_is c) c.args.seen.now.class c.requires.seen.class c.judge-verdict.result (judges c) in
+    let taught = subst (λ (p : Port). (place : ℕ) → place < length c.judge-verdict.new.sets → live_at c.moment_at-moment.result (fdb_at c.teach.new.sets place) ≡ taught_if (teaches_at set c.judge-verdict.result place) p c.moment_at-moment.result (eth_of c.args.seen.now.class) (live_at c.moment_at-moment.result (fdb_at c.judge-verdict.new.sets place))) c.origin_of-origin.ensures.port c.teach.ensures.taught in
     rw c.append.ensures (
-      shut_as (sym (ap (λ (r : Rings). r.shut) c.offer_frame-cuts.ensures.lanes ∙ still_shut c)) (remembers_frame c.self.invariant.0 port stamp octets e c.judge-verdict.new.queues.lanes c.offer_frame-cuts.new.self.lanes (may c) (inner_is c) (before c) lanes_are),
+      shut_as (sym (ap (λ (r : Rings). r.shut) c.offer_frame-cuts.ensures.lanes ∙ still_shut c)) (remembers_frame c.self.invariant.0 port stamp octets e c.judge-verdict.new.queues.lanes c.offer_frame-cuts.new.self.lanes (may c) (inner_is c) (before c) (whole_frame c) lanes_are),
       c.self.invariant.1,
       c.self.invariant.2,
       c.self.invariant.3,
-      knows_frame c.self.invariant.0 inside.fdb c.self.invariant.4 port stamp octets c.args.class.now c.judge-verdict.result e c.teach.new.fdb c.requires.class (inner_is c) refl c.teach.ensures,
-      tells_frame c.self.invariant.0 inside.access c.self.invariant.5 port stamp octets e c.judge-verdict.new.access (inner_is c) states (ready c),
+      lent_too (with_items_is inside.sets c.teach.new.sets (omega arith)) (all_frame c.self.invariant.0 c.as_mut_slice-sets.result.now (lent_too c.as_mut_slice-sets.ensures.value c.self.invariant.4) c.judge-verdict.new.sets c.judge-verdict.ensures.rest stamp (ready c) port octets c.args.seen.now.class c.judge-verdict.result set e c.teach.new.sets c.requires.seen.class
+          c.origin_of-origin.ensures.origin.within (vlan_is c) (inner_is c) refl states c.teach.ensures.access taught),
       no_refusal c.self.invariant.0 (events.Frame port stamp octets) e octets inside.refused (inner_is c) tt,
-      counted_too c.self.invariant.0 inside.tally c.add.new.self e octets c.self.invariant.7 c.add.ensures,
-      ends_still c.self.invariant.0 inside.ends c.self.invariant.8 (events.Frame port stamp octets) e octets (inner_is c) tt,
+      counted_too c.self.invariant.0 inside.tally c.add.new.self e octets c.self.invariant.6 c.add.ensures,
+      ends_still c.self.invariant.0 inside.ends c.self.invariant.7 (events.Frame port stamp octets) e octets (inner_is c) tt,
+      c.self.invariant.8,
       c.self.invariant.9,
-      c.self.invariant.10,
     )
 
 pub returns-clause-entered : goal.returns-clause-entered

@@ -18,6 +18,6 @@ returns c =
     ap (λ (n : ℕ). nat_lt n c.inputs_left-2.result) c.inputs_left.ensures
     ∙ ap (λ (n : ℕ). nat_lt (left inside.passes.inputs) n) c.inputs_left-2.ensures
     ∙ ap (λ (n : ℕ). nat_lt (left n) (over inside.ends.inputs)) c.self.invariant.3
-    ∙ ap (λ (n : ℕ). nat_lt (left (control_pass inside.ports + 1)) (over n)) c.self.invariant.8.inputs
-    ∙ pause_told inside.ports (base_kept inside.checkpoint) (reverse inside.hist.rows) was.legal inside.passes.ended inside.ends.ends was.passes c.self.invariant.8.ends
+    ∙ ap (λ (n : ℕ). nat_lt (left (control_pass inside.ports + 1)) (over n)) c.self.invariant.7.inputs
+    ∙ pause_told inside.ports (base_kept inside.checkpoint) (reverse inside.hist.rows) was.legal inside.passes.ended inside.ends.ends was.passes c.self.invariant.7.ends
     ∙ ap (λ (m : Machine). has_pause m.past) c.self.view_is

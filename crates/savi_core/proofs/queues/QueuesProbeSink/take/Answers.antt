@@ -3,6 +3,7 @@ use Rattle.std.specs.List.{count_by}
 use Rattle.std.proofs.lemmas.List.{get_or_default, drop_all}
 use Rattle.savi_kinds.specs.declared.port.PortSet.{PortSet}
 use Rattle.egress_ring.specs.declared.item.Item.{Item as Queued}
+use Rattle.savi_history.specs.Offers.{offer_of}
 use Rattle.savi_core.specs.Lanes.{Lane, goes_to, takes_one, takes, leaves_out, with_probe, no_lane}
 use Rattle.savi_core.specs.Rings.{Rings, shut_in, counted, ring_item}
 use Rattle.savi_core.proofs.OneByOne.{rings_are, changed_more, changed_all, count_one, count_none, took, left_it, passed_by}
@@ -11,15 +12,15 @@ use Rattle.savi_core.proofs.queues.QueuesProbeSink.take.Goals as goal
 
 pub loop-place-init : goal.loop-place-init
 loop-place-init c =
-    let probe = c.args.sent.probe in
+    let probe = offer_of c.args.vlan c.args.sent in
     let h = c.self.ranges in
     record {
       few = (omega arith, omega arith);
       shut = ap (λ (r : Rings). r.shut) c.self.view_is;
       size = ap (λ (r : Rings). length r.lanes) c.self.view_is;
-      lanes = ap (λ (r : Rings). map (with_probe (shut_in c.args.self.now.shut) (ring_item c.args.sent) c.args.sent.probe) r.lanes) c.self.view_is;
-      queued = ap (λ (r : Rings). counted r.queued (count_by (takes (shut_in c.args.self.now.shut) c.args.sent.probe) r.lanes)) c.self.view_is;
-      lost = ap (λ (r : Rings). counted r.lost (count_by (leaves_out (shut_in c.args.self.now.shut) c.args.sent.probe) r.lanes)) c.self.view_is;
+      lanes = ap (λ (r : Rings). map (with_probe (shut_in c.args.self.now.shut) (ring_item (offer_of c.args.vlan c.args.sent)) (offer_of c.args.vlan c.args.sent)) r.lanes) c.self.view_is;
+      queued = ap (λ (r : Rings). counted r.queued (count_by (takes (shut_in c.args.self.now.shut) (offer_of c.args.vlan c.args.sent)) r.lanes)) c.self.view_is;
+      lost = ap (λ (r : Rings). counted r.lost (count_by (leaves_out (shut_in c.args.self.now.shut) (offer_of c.args.vlan c.args.sent)) r.lanes)) c.self.view_is;
     }
 
 -- the place is that of a lane
@@ -30,14 +31,14 @@ inside c = omega (arith, c.loop-place-test.true, c.len-place-end.ensures, c.loop
 here : (c : goal.Joined-offer_probe) → c.index_mut.result.now ≡ get_or c.loop-place.self-inside.queues.items c.loop-place.place no_lane
 here c = c.index_mut.ensures.value ∙ get_or_default c.loop-place.self-inside.queues.items c.loop-place.place c.index_mut.result.now no_lane (inside c)
 
-lane_is : (c : goal.Joined-offer_probe) → c.offer_probe.new.self ≡ with_probe (shut_in c.args.self.now.shut) (ring_item c.args.sent) c.args.sent.probe (get_or c.loop-place.self-inside.queues.items c.loop-place.place no_lane)
+lane_is : (c : goal.Joined-offer_probe) → c.offer_probe.new.self ≡ with_probe (shut_in c.args.self.now.shut) (ring_item (offer_of c.args.vlan c.args.sent)) (offer_of c.args.vlan c.args.sent) (get_or c.loop-place.self-inside.queues.items c.loop-place.place no_lane)
 lane_is c =
     c.offer_probe.ensures.lane
-    ∙ ap (λ (set : PortSet). with_probe (shut_in set) (ring_item c.args.sent) c.args.sent.probe c.index_mut.result.now) c.loop-place.invariant.shut
-    ∙ ap (with_probe (shut_in c.args.self.now.shut) (ring_item c.args.sent) c.args.sent.probe) (here c)
+    ∙ ap (λ (set : PortSet). with_probe (shut_in set) (ring_item (offer_of c.args.vlan c.args.sent)) (offer_of c.args.vlan c.args.sent) c.index_mut.result.now) c.loop-place.invariant.shut
+    ∙ ap (with_probe (shut_in c.args.self.now.shut) (ring_item (offer_of c.args.vlan c.args.sent)) (offer_of c.args.vlan c.args.sent)) (here c)
 
-answer_is : (c : goal.Joined-offer_probe) → (if goes_to (shut_in c.args.self.now.shut) c.args.sent.probe (get_or c.loop-place.self-inside.queues.items c.loop-place.place no_lane) then Some (takes_one (get_or c.loop-place.self-inside.queues.items c.loop-place.place no_lane)) else None) ≡ c.offer_probe.result
-answer_is c = sym (c.offer_probe.ensures.joined ∙ ap (λ (set : PortSet). if goes_to (shut_in set) c.args.sent.probe c.index_mut.result.now then Some (takes_one c.index_mut.result.now) else None) c.loop-place.invariant.shut ∙ ap (λ (lane : Lane Queued). if goes_to (shut_in c.args.self.now.shut) c.args.sent.probe lane then Some (takes_one lane) else None) (here c))
+answer_is : (c : goal.Joined-offer_probe) → (if goes_to (shut_in c.args.self.now.shut) (offer_of c.args.vlan c.args.sent) (get_or c.loop-place.self-inside.queues.items c.loop-place.place no_lane) then Some (takes_one (get_or c.loop-place.self-inside.queues.items c.loop-place.place no_lane)) else None) ≡ c.offer_probe.result
+answer_is c = sym (c.offer_probe.ensures.joined ∙ ap (λ (set : PortSet). if goes_to (shut_in set) (offer_of c.args.vlan c.args.sent) c.index_mut.result.now then Some (takes_one c.index_mut.result.now) else None) c.loop-place.invariant.shut ∙ ap (λ (lane : Lane Queued). if goes_to (shut_in c.args.self.now.shut) (offer_of c.args.vlan c.args.sent) lane then Some (takes_one lane) else None) (here c))
 
 pub loop-place-preserved : goal.loop-place-preserved
 loop-place-preserved c =
@@ -46,10 +47,10 @@ loop-place-preserved c =
     let i = c.loop-place.place in
     let v = c.offer_probe.new.self in
     let lane = get_or items i no_lane in
-    let probe = c.args.sent.probe in
+    let probe = offer_of c.args.vlan c.args.sent in
     let old = c.args.self.now in
     let size = length-set items i v ∙ was.size in
-    let lanes = changed_more (with_probe (shut_in c.args.self.now.shut) (ring_item c.args.sent) c.args.sent.probe) items i no_lane v (inside c) (lane_is c) ∙ was.lanes in
+    let lanes = changed_more (with_probe (shut_in c.args.self.now.shut) (ring_item (offer_of c.args.vlan c.args.sent)) (offer_of c.args.vlan c.args.sent)) items i no_lane v (inside c) (lane_is c) ∙ was.lanes in
     let taken = count_by (takes (shut_in c.args.self.now.shut) probe) old.lanes in
     let left = count_by (leaves_out (shut_in c.args.self.now.shut) probe) old.lanes in
     elim c.match-offer_probe.branch [
@@ -91,8 +92,8 @@ returns c =
     let past : length items ≤ c.loop-place.place = omega (arith, c.loop-place-test.false, c.len-place-end.ensures, c.loop-place.invariant.size, ap (λ (r : Rings). length r.lanes) c.self.view_is) in
     let was = c.loop-place.invariant in
     let none : drop c.loop-place.place items ≡ [] = drop_all c.loop-place.place items past in
-    let queued_is : c.loop-place.self-inside.queued ≡ counted c.args.self.now.queued (count_by (takes (shut_in c.args.self.now.shut) c.args.sent.probe) c.args.self.now.lanes) =
-    omega (arith, was.few.0, was.queued, ap (λ (l : List (Lane Queued)). count_by (takes (shut_in c.args.self.now.shut) c.args.sent.probe) l) none) in
-    let lost_is : c.loop-place.self-inside.lost ≡ counted c.args.self.now.lost (count_by (leaves_out (shut_in c.args.self.now.shut) c.args.sent.probe) c.args.self.now.lanes) =
-    omega (arith, was.few.1, was.lost, ap (λ (l : List (Lane Queued)). count_by (leaves_out (shut_in c.args.self.now.shut) c.args.sent.probe) l) none) in
-    rings_are (sym (changed_all (with_probe (shut_in c.args.self.now.shut) (ring_item c.args.sent) c.args.sent.probe) items c.loop-place.place past) ∙ was.lanes) was.shut queued_is lost_is
+    let queued_is : c.loop-place.self-inside.queued ≡ counted c.args.self.now.queued (count_by (takes (shut_in c.args.self.now.shut) (offer_of c.args.vlan c.args.sent)) c.args.self.now.lanes) =
+    omega (arith, was.few.0, was.queued, ap (λ (l : List (Lane Queued)). count_by (takes (shut_in c.args.self.now.shut) (offer_of c.args.vlan c.args.sent)) l) none) in
+    let lost_is : c.loop-place.self-inside.lost ≡ counted c.args.self.now.lost (count_by (leaves_out (shut_in c.args.self.now.shut) (offer_of c.args.vlan c.args.sent)) c.args.self.now.lanes) =
+    omega (arith, was.few.1, was.lost, ap (λ (l : List (Lane Queued)). count_by (leaves_out (shut_in c.args.self.now.shut) (offer_of c.args.vlan c.args.sent)) l) none) in
+    rings_are (sym (changed_all (with_probe (shut_in c.args.self.now.shut) (ring_item (offer_of c.args.vlan c.args.sent)) (offer_of c.args.vlan c.args.sent)) items c.loop-place.place past) ∙ was.lanes) was.shut queued_is lost_is

@@ -1,4 +1,4 @@
-use Rattle.std.proofs.Common.{◌≡◌, ◌≤◌, ◌+◌, ◌++◌, ℕ, List, length}
+use Rattle.std.proofs.Common.{◌≡◌, ◌+◌, ◌++◌, ℕ, List, length}
 use Rattle.savi_ends.specs.Octets.{Takes}
 use Rattle.stream_io.proofs.AheadHeld.{Unread}
 use Rattle.stream_io.proofs.ahead.Ahead.pass_over.Given as goal

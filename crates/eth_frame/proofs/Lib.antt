@@ -1,0 +1,3 @@
+pub mod TagIs
+pub mod Untagged
+pub mod TaggedAgain
