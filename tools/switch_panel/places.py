@@ -17,6 +17,22 @@ IFF_TAP, IFF_NO_PI, IFF_UP, IFF_PROMISC = 0x0002, 0x1000, 0x1, 0x100
 # How long is waited between two tries to connect, in s.
 PAUSE = 0.05
 
+# How many users are named of those who may enter a folder.
+NAMED = 3
+
+
+def who_may_enter(found, groups, users):
+    """Who may enter a folder besides root, its owner and this process, in words, or None. `found` is what os.stat says of it;
+    the groups and users are those of the machine (grp, pwd)."""
+    if found.st_mode & stat.S_IXOTH:
+        return "anyone"
+    if not found.st_mode & stat.S_IXGRP:
+        return None
+    members = {user.pw_name for user in users if user.pw_gid == found.st_gid}
+    members.update(name for group in groups if group.gr_gid == found.st_gid for name in group.gr_mem)
+    names = sorted(members - {user.pw_name for user in users if user.pw_uid in (0, found.st_uid, os.geteuid())})
+    return f"{', '.join(names[:NAMED])}{' and others' if names[NAMED:] else ''}" if names else None
+
 
 def is_listened_at(path):
     """Whether a program listens at the path of a socket. One that waits there sees a connection that closes at once."""

@@ -1,7 +1,9 @@
 """A panel from its start to its end."""
 import asyncio
 import contextlib
+import grp
 import os
+import pwd
 import select
 import shutil
 import signal
@@ -14,7 +16,7 @@ from tool_parts.kept import is_unkept_pipe
 from .files import INTERFACES, Fault
 from .limits import descriptors, lacking_descriptors, threads
 from .operators import Control, Ended
-from .places import connect, interface_lacks, lacking_threads, limits_of, make_socket, open_interface, same_file
+from .places import connect, interface_lacks, lacking_threads, limits_of, make_socket, open_interface, same_file, who_may_enter
 from .qemu import Port
 from .service import notify
 from .watching import why_not_whole
@@ -70,10 +72,10 @@ class Run:
         return ends, operators
 
     def look_at_folder(self):
-        mode = stat.S_IMODE(os.stat(self.folder).st_mode)
-        if mode & stat.S_IXOTH:
-            self.tell(f"warning: {self.folder}: anyone may enter (mode {mode:04o}), and whoever comes to a path of the "
-                      "switch before the panel is its peer: chmod 700")
+        found = os.stat(self.folder)
+        if who := who_may_enter(found, grp.getgrall(), pwd.getpwall()):
+            self.tell(f"warning: {self.folder}: {who} may enter (mode {stat.S_IMODE(found.st_mode):04o}), and whoever comes to "
+                      "a path of the switch before the panel is its peer: chmod 700")
         if is_unkept_pipe(journal := os.path.join(self.folder, self.panel.plan.journal)):
             self.tell(f"warning: {journal}: a pipe that savi-journal-keep doesn't read: the switch waits until somebody does")
 
