@@ -1,6 +1,9 @@
 """Histories of ports in several VLANs, worked out by hand from the rules of docs/RULES.md and docs/FORMATS.md. Ports 1 and 5
 are hosts in VLAN 10 and port 2 one in VLAN 20, port 3 is a trunk of both, port 4 is trusted in VLAN 10, and port 6 a server
 in VLAN 20, unless a history says otherwise."""
+import subprocess
+import tempfile
+
 from .. import capture, checking, making
 from ..frame import tagged_frame
 from ..learn import Learned
@@ -179,6 +182,31 @@ def check_tags(same):
         same(name, "it comes to", judged(replay(plan_of(), [(3, 1000, frame)])), [f"3@1000 {want} 0"])
     run = replay(plan_of(("trusted trunk = [10]",) * 2, ()), [(1, 1000, tag("f00a", ADVERT))])
     same("a priority beside the VLAN", "another trunk sends", sent(run, 2), [(1000, tag("000a", ADVERT))])
+
+
+def judged_by(program, text, port, frame):
+    """The verdict of a program on one frame at 1 s, and the ports to which it goes."""
+    with tempfile.TemporaryDirectory() as work:
+        plan = read_plan(text.encode("ascii"))
+        files = {"plan.toml": text.encode("ascii"), plan.control[0]: b""}
+        files |= {at.input: capture.HEADER + (capture.record(1000, frame) if at.number == port else b"") for at in plan.ports}
+        for name, octets in files.items():
+            with open(f"{work}/{name}", "wb") as file:
+                file.write(octets)
+        subprocess.run([program, "replay", "plan.toml"], cwd=work, check=True, stdout=subprocess.DEVNULL, timeout=100)
+        with open(f"{work}/{plan.journal}", encoding="ascii") as file:
+            entries = [line.split() for line in file]
+    return [" ".join(entry[7:9]) for entry in entries if entry[3:5] == ["F", str(port)]]
+
+
+def check_program(same, program):
+    """A program judges each frame of both tables as is worked out here."""
+    for name, port, frame in TAGGED:
+        for more in ("", 'savi = "off"\n'):
+            same(f"{name} {more}", "the program says", judged_by(program, plan_text(more=more), port, frame), ["drop-Tagged -"])
+    for name, frame, want in OTHERS:
+        same(name, "the program says", judged_by(program, plan_text(), 3, frame), [want])
+    print(f"worked frames with tags: the program judges {2 * len(TAGGED) + len(OTHERS)} as they should be")
 
 
 def check_lengths(same):
