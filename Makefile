@@ -24,12 +24,12 @@ PLAN = examples/validation-spoofed-data/plan.toml
 plan:
 	@tools/plan --folder "$(dir $(PLAN))" "$(PLAN)"
 
-# The program beside a C program that does the same octet work without judging, with 2 ports and with 5; live, beside a hub
-# in C; its own load; the check of a journal beside the replay that wrote it; a history that turns beside one that holds it
-# all, of a replay and live; the reader of captures beside tcpdump; the pass lock beside a mutex; the stations, the bindings
-# and the timers beside hash maps; and steps of the core, with the validation of sources and without. Then one table, beside
-# C and, with make bench BEFORE=PROGRAM, beside that program. The first time takes the builds, and then about five minutes,
-# longer with BEFORE.
+# The program beside a C program that does the same octet work without judging, with 2 ports and with 5, in time and in
+# instructions; live, beside a hub in C; its own load; the check of a journal beside the replay that wrote it; a history that
+# turns beside one that holds it all, of a replay and live; the start with the greatest plan; the reader of captures beside
+# tcpdump; the pass lock beside a mutex; the stations, the bindings and the timers beside hash maps; and steps of the core,
+# with the validation of sources and without. Then one table, beside C and, with make bench BEFORE=PROGRAM, beside that
+# program, and with what is aimed at. The first time takes the builds, and then some minutes, longer with BEFORE.
 BEFORE =
 bench: build build/capture_bench build/lock_bench build/fdb_bench build/tables_bench build/core_bench
 	bench/all build/savi_switch $(if $(BEFORE),--before "$(BEFORE)")

@@ -3,7 +3,7 @@
 a station that never sends, or, with the word `known`, each for the host of the next port. With the word `bound` they are so,
 too, but the host of a port has 24 addresses: the first frame of each claims it, and all others come once it is bound.
 
-usage: make_captures.py FOLDER [PORTS [known|bound]] [--frames FRAMES]
+usage: make_captures.py FOLDER [PORTS [known|bound]] [--frames FRAMES] [--octets OCTETS]
 """
 import os
 import struct
@@ -15,6 +15,8 @@ sys.path.append(os.path.join(os.path.dirname(os.path.realpath(__file__)), "..", 
 from tool_parts import options
 
 FRAMES = 120_000
+# The octets of a frame, and of every eighth.
+SIZES = (54, 1500)
 
 # the addresses of a host where they are bound, and how long they are tested before, with some to spare (ms)
 ADDRESSES, TESTED = 24, 1000
@@ -34,11 +36,12 @@ def frame(port, size, to, address=0):
     return ethernet + ip + addresses + bytes(payload)
 
 
-def main(folder, ports, word, count_of_frames):
+def main(folder, ports, word, count_of_frames, octets_of_all=None):
     count = ADDRESSES if word == "bound" else 1
+    sizes = (octets_of_all,) * 2 if octets_of_all else SIZES
     for port in range(1, ports + 1):
         to = 0xFE if word == "" else 17 * (port % ports + 1)
-        frames = [[frame(port, size, to, address) for size in (54, 1500)] for address in range(count)]
+        frames = [[frame(port, size, to, address) for size in sizes] for address in range(count)]
         with open(f"{folder}/{port}.pcap", "wb") as out:
             out.write(HEADER)
             for k in range(count_of_frames // ports):
@@ -56,5 +59,6 @@ if __name__ == "__main__":
     words.add_argument("ports", metavar="PORTS", nargs="?", type=options.whole(1, 16), default=2, help="2 if not given")
     words.add_argument("word", metavar="known|bound", nargs="?", choices=("known", "bound"), help="see above")
     words.add_argument("--frames", metavar="FRAMES", type=options.whole(1), default=FRAMES, help="%(default)s if not given")
+    words.add_argument("--octets", metavar="OCTETS", type=options.whole(54, 1518), help="the length of all frames")
     given = words.parse_args()
-    main(given.folder, given.ports, given.word or "", given.frames)
+    main(given.folder, given.ports, given.word or "", given.frames, given.octets)
