@@ -240,10 +240,10 @@ def verdicts(journal):
 
 def lines(trials):
     """What each network did with each attack, and with honest traffic."""
-    for title, sent in trials[0].sent.items():
+    for title in trials[0].sent:
         yield f"{title}:"
         for trial in trials:
-            found = verdicts(trial.journal) if trial.journal else {}
+            found, sent = verdicts(trial.journal) if trial.journal else {}, trial.sent[title]
             rule = "".join(f" ({found.get(frame.hex(), 'not in the journal')})" for frame in sent if trial.journal)
             yield f"  {trial.title}: {'comes to ' + ', '.join(trial.reached[title]) if trial.reached[title] else '-'}{rule}"
     for title in trials[0].honest:
