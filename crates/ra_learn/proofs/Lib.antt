@@ -7,3 +7,6 @@ pub mod Frames
 pub mod Knowing
 pub mod OnLink
 pub mod Limits
+pub mod Counting
+pub mod Kept
+pub mod Writing

@@ -85,6 +85,14 @@ prefixes_more octets rest known more told some within is =
     ∙ ap (option_map (λ options. known ++ counted_prefixes options)) (row_step rest (omega (arith, some, within)) some within)
     ∙ prefixes_step known more (option_in (take (8 * get_or rest 1 0) rest)) (option_row (drop (8 * get_or rest 1 0) rest)) is
 
+none_of : (o : Option (List NdOption)) → option_map counted_prefixes o ≡ None → o ≡ None
+none_of None is = refl
+none_of (Some options) is = cc
+
+-- octets whose rest is no row of options are none either
+pub rows_none : (octets rest : List ℕ) (known : List AdvertPrefix) → option_map counted_prefixes (option_row octets) ≡ option_map (λ options. known ++ counted_prefixes options) (option_row rest) → option_row rest ≡ None → option_row octets ≡ None
+rows_none octets rest known told none = none_of (option_row octets) (told ∙ ap (option_map (λ options. known ++ counted_prefixes options)) none)
+
 -- octets are one row of whole options at most
 pub row_same : (octets : List ℕ) (a b : List NdOption) → AreOptions octets a → AreOptions octets b → b ≡ a
 row_same octets [] [] p q = refl

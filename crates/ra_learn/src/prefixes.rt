@@ -14,7 +14,7 @@ use std::marker::Model;
 pub const LINK_PREFIXES_MOST: usize = 32;
 
 /// A prefix of the link, which an advertisement that passed named.
-#[derive(Clone, Copy, PartialEq, Eq, Debug)]
+#[derive(Clone, Copy)]
 pub struct LinkPrefix {
     pub prefix: Prefix,
     /// The moment (ms) before which it stands, or none where it always does.

@@ -14,7 +14,7 @@ use std::marker::Model;
 pub const ROUTERS_MOST: usize = 64;
 
 /// A router: the source of advertisements that passed at a port.
-#[derive(Clone, Copy, PartialEq, Eq, Debug)]
+#[derive(Clone, Copy)]
 pub struct Router {
     pub source: Addr,
     pub port: Port,

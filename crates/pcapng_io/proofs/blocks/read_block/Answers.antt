@@ -1,5 +1,4 @@
 use Rattle.std.proofs.Common.{◌≡◌, lit≤, ◌++◌, length, length-take-le, ap, ◌∙◌, arith}
-use Rattle.std.proofs.lemmas.Grind.{common_steps}
 use Rattle.std.proofs.lemmas.Result.{err_from_is_err_and}
 use Rattle.std.specs.Result.{result_ok}
 use Rattle.savi_ends.proofs.Octets.{takes_more}
@@ -13,7 +12,7 @@ pub returns-in-Short-2-clause-octets : goal.returns-in-Short-2-clause-octets
 returns-in-Short-2-clause-octets g c =
     let s = standing_of c.args.position.now in
     let took = c.in-Short.ensures.octets in
-    let room : length c.fill.new.buf ≡ 8 = grind (arith, common_steps, c.fill.auto.buf) in
+    let room : length c.fill.new.buf ≡ 8 = omega (arith, c.fill.auto.buf) in
     let size : length took.0 ≡ c.in-Short.field-0 = ap length took.2.1 ∙ length-take-le c.in-Short.field-0 c.fill.new.buf (omega (arith, took.2.0)) in
     let more : IsDone s took.0 → ⊥ = λ done. c.in-Short.field-0-test.1 (omega (arith, size, ap length done.0)) in
     (took.0, took.1, stops_in_head s took.0 (g.S.Source.left c.fill.new.source) (omega (arith, size, room, took.2.0)) more took.2.2)
@@ -24,7 +23,7 @@ returns-in_err-read_section-clause-octets g c =
     let s = standing_of c.args.position.now in
     let took = c.in-Whole.ensures.octets in
     let head = c.fill.new.buf in
-    let size : length head ≡ 8 = grind (arith, common_steps, c.fill.auto.buf) in
+    let size : length head ≡ 8 = omega (arith, c.fill.auto.buf) in
     let first = takes_whole _ _ took.0 head took.1 took.2 in
     let rest = c.in_err-read_section.ensures.octets in
     let left = g.S.Source.left c.read_section.new.source in
@@ -35,7 +34,7 @@ returns-then-stands_at-clause-octets g c =
     let s = standing_of c.args.position.now in
     let took = c.in-Whole.ensures.octets in
     let head = c.fill.new.buf in
-    let size : length head ≡ 8 = grind (arith, common_steps, c.fill.auto.buf) in
+    let size : length head ≡ 8 = omega (arith, c.fill.auto.buf) in
     let first = takes_whole _ _ took.0 head took.1 took.2 in
     let rest = c.in_ok-read_section.ensures.octets in
     (head ++ rest.0, takes_more head rest.0 _ _ _ first rest.1, rest.2 c.args.buf.now)
@@ -46,7 +45,7 @@ returns-in_err-whole-in-1-clause-octets g c =
     let s = standing_of c.args.position.now in
     let took = c.in-Whole.ensures.octets in
     let head = c.fill.new.buf in
-    let size : length head ≡ 8 = grind (arith, common_steps, c.fill.auto.buf) in
+    let size : length head ≡ 8 = omega (arith, c.fill.auto.buf) in
     let first = takes_whole _ _ took.0 head took.1 took.2 in
     let rest = c.in_err-whole-in-1.ensures.octets in
     let left = g.S.Source.left c.read_interface.new.source in
@@ -58,7 +57,7 @@ returns-in_err-whole-in-6-clause-octets g c =
     let s = standing_of c.args.position.now in
     let took = c.in-Whole.ensures.octets in
     let head = c.fill.new.buf in
-    let size : length head ≡ 8 = grind (arith, common_steps, c.fill.auto.buf) in
+    let size : length head ≡ 8 = omega (arith, c.fill.auto.buf) in
     let first = takes_whole _ _ took.0 head took.1 took.2 in
     let rest = c.in_err-whole-in-6.ensures.octets in
     let left = g.S.Source.left c.read_packet.new.source in
@@ -70,7 +69,7 @@ returns-in_err-whole-in_default-clause-octets g c =
     let s = standing_of c.args.position.now in
     let took = c.in-Whole.ensures.octets in
     let head = c.fill.new.buf in
-    let size : length head ≡ 8 = grind (arith, common_steps, c.fill.auto.buf) in
+    let size : length head ≡ 8 = omega (arith, c.fill.auto.buf) in
     let first = takes_whole _ _ took.0 head took.1 took.2 in
     let rest = c.in_err-whole-in_default.ensures.octets in
     let left = g.S.Source.left c.read_other.new.source in
@@ -81,7 +80,7 @@ returns-in_ok-whole-in-1-clause-octets g c =
     let s = standing_of c.args.position.now in
     let took = c.in-Whole.ensures.octets in
     let head = c.fill.new.buf in
-    let size : length head ≡ 8 = grind (arith, common_steps, c.fill.auto.buf) in
+    let size : length head ≡ 8 = omega (arith, c.fill.auto.buf) in
     let first = takes_whole _ _ took.0 head took.1 took.2 in
     let rest = c.in_ok-whole-in-1.ensures.octets in
     (head ++ rest.0, takes_more head rest.0 _ _ _ first rest.1, rest.2 c.args.buf.now)
@@ -91,7 +90,7 @@ returns-in_ok-whole-in-6-clause-octets g c =
     let s = standing_of c.args.position.now in
     let took = c.in-Whole.ensures.octets in
     let head = c.fill.new.buf in
-    let size : length head ≡ 8 = grind (arith, common_steps, c.fill.auto.buf) in
+    let size : length head ≡ 8 = omega (arith, c.fill.auto.buf) in
     let first = takes_whole _ _ took.0 head took.1 took.2 in
     let rest = c.in_ok-whole-in-6.ensures.octets in
     (head ++ rest.0, takes_more head rest.0 _ _ _ first rest.1, rest.2)
@@ -101,7 +100,7 @@ returns-in_ok-whole-in_default-clause-octets g c =
     let s = standing_of c.args.position.now in
     let took = c.in-Whole.ensures.octets in
     let head = c.fill.new.buf in
-    let size : length head ≡ 8 = grind (arith, common_steps, c.fill.auto.buf) in
+    let size : length head ≡ 8 = omega (arith, c.fill.auto.buf) in
     let first = takes_whole _ _ took.0 head took.1 took.2 in
     let rest = c.in_ok-whole-in_default.ensures.octets in
     (head ++ rest.0, takes_more head rest.0 _ _ _ first rest.1, rest.2 c.read_other.new.buf)

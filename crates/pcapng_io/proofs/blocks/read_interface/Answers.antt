@@ -1,5 +1,4 @@
 use Rattle.std.proofs.Common.{◌≡◌, ℕ, ◌-◌, true, [], ◌++◌, length, sym, subst, ◌∙◌, arith, lit≤, length-append}
-use Rattle.std.proofs.lemmas.Grind.{common_steps}
 use Rattle.std.proofs.lemmas.Result.{err_from_is_err_and}
 use Rattle.savi_ends.proofs.Octets.{takes_more}
 use Rattle.pcap_io.specs.Numbers.{number_at}
@@ -16,7 +15,7 @@ pub returns-then-not-is_total-clause-octets : goal.returns-then-not-is_total-cla
 returns-then-not-is_total-clause-octets g c =
     let s = standing_of c.args.position.now in
     let head = c.args.head.now in
-    let head_size : length head ≡ 8 = grind (arith, common_steps) in (
+    let head_size : length head ≡ 8 = c.told-head in (
       [],
       takes_none (g.S.Source.left c.args.source.now),
       (
@@ -37,9 +36,9 @@ returns-in_err-take-clause-octets g c =
     let p = err_from_is_err_and c.from_residual.result c.from_residual.ensures.1 in
     let s = standing_of c.args.position.now in
     let head = c.args.head.now in
-    let head_size : length head ≡ 8 = grind (arith, common_steps) in
+    let head_size : length head ≡ 8 = c.told-head in
     let took = c.in_err-take.ensures.octets in
-    let room : length c.take.new.buf ≡ 8 = grind (arith, common_steps, c.take.auto.buf) in
+    let room : length c.take.new.buf ≡ 8 = omega (arith, c.take.auto.buf) in
     let left = g.S.Source.left c.take.new.source in
     let short : FallsShort 8 c.in_err-take.field-0.0 took.0 left = subst (λ (n : ℕ). FallsShort n c.in_err-take.field-0.0 took.0 left) room took.2 in
     (took.0, took.1, rw (p.1, p.2) (interface_short s c.args.order head took.0 c.in_err-take.field-0.0 left head_size c.requires.order_is c.requires.kind short, short_within 8 1048568 [] took.0 c.in_err-take.field-0.0 left short (lit≤ tt)))
@@ -49,10 +48,10 @@ returns-in_err-units-clause-octets g c =
     let p = err_from_is_err_and c.from_residual-in_err-units.result c.from_residual-in_err-units.ensures.1 in
     let s = standing_of c.args.position.now in
     let head = c.args.head.now in
-    let head_size : length head ≡ 8 = grind (arith, common_steps) in
+    let head_size : length head ≡ 8 = c.told-head in
     let took = c.in_ok-take.ensures.octets in
     let fields = c.take.new.buf in
-    let size : length fields ≡ 8 = grind (arith, common_steps, c.take.auto.buf) in
+    let size : length fields ≡ 8 = omega (arith, c.take.auto.buf) in
     let first = takes_whole _ _ took.0 fields took.1 took.2 in
     let here = c.args.order in
     let rest = c.in_err-units.ensures.octets in
@@ -69,10 +68,10 @@ pub returns-clause-octets : goal.returns-clause-octets
 returns-clause-octets g c =
     let s = standing_of c.args.position.now in
     let head = c.args.head.now in
-    let head_size : length head ≡ 8 = grind (arith, common_steps) in
+    let head_size : length head ≡ 8 = c.told-head in
     let took = c.in_ok-take.ensures.octets in
     let fields = c.take.new.buf in
-    let size : length fields ≡ 8 = grind (arith, common_steps, c.take.auto.buf) in
+    let size : length fields ≡ 8 = omega (arith, c.take.auto.buf) in
     let first = takes_whole _ _ took.0 fields took.1 took.2 in
     let here = c.args.order in
     let rest = c.in_ok-units.ensures.octets in

@@ -1,5 +1,4 @@
 use Rattle.std.proofs.Common.{◌≡◌, ℕ, ◌-◌, [], ◌++◌, length, sym, subst, ◌∙◌, arith, length-append}
-use Rattle.std.proofs.lemmas.Grind.{common_steps}
 use Rattle.std.proofs.lemmas.Result.{err_from_is_err_and}
 use Rattle.savi_ends.proofs.Octets.{takes_more}
 use Rattle.pcap_io.specs.Numbers.{number_at}
@@ -15,7 +14,7 @@ pub returns-then-not-is_total-clause-octets : goal.returns-then-not-is_total-cla
 returns-then-not-is_total-clause-octets g c =
     let s = standing_of c.args.position.now in
     let head = c.args.head.now in
-    let head_size : length head ≡ 8 = grind (arith, common_steps) in
+    let head_size : length head ≡ 8 = c.told-head in
     let h : OtherHead s c.args.order head = record { size = head_size; here = c.requires.order_is; no_section = c.requires.no_section; no_interface = c.requires.no_interface; no_packet = c.requires.no_packet } in (
       [],
       takes_none (g.S.Source.left c.args.source.now),
@@ -33,7 +32,7 @@ returns-in_err-pass_over-clause-octets g c =
     let p = err_from_is_err_and c.from_residual.result c.from_residual.ensures.1 in
     let s = standing_of c.args.position.now in
     let head = c.args.head.now in
-    let head_size : length head ≡ 8 = grind (arith, common_steps) in
+    let head_size : length head ≡ 8 = c.told-head in
     let h : OtherHead s c.args.order head = record { size = head_size; here = c.requires.order_is; no_section = c.requires.no_section; no_interface = c.requires.no_interface; no_packet = c.requires.no_packet } in
     let took = c.in_err-pass_over.ensures.octets in
     let left = g.S.Source.left c.pass_over.new.source in
@@ -47,7 +46,7 @@ returns-in_err-read_tail-clause-octets g c =
     let p = err_from_is_err_and c.from_residual-in_err-read_tail.result c.from_residual-in_err-read_tail.ensures.1 in
     let s = standing_of c.args.position.now in
     let head = c.args.head.now in
-    let head_size : length head ≡ 8 = grind (arith, common_steps) in
+    let head_size : length head ≡ 8 = c.told-head in
     let h : OtherHead s c.args.order head = record { size = head_size; here = c.requires.order_is; no_section = c.requires.no_section; no_interface = c.requires.no_interface; no_packet = c.requires.no_packet } in
     let body = c.in_ok-pass_over.ensures.octets in
     let tail = c.in_err-read_tail.ensures.octets in
@@ -62,7 +61,7 @@ pub returns-clause-octets : goal.returns-clause-octets
 returns-clause-octets g c =
     let s = standing_of c.args.position.now in
     let head = c.args.head.now in
-    let head_size : length head ≡ 8 = grind (arith, common_steps) in
+    let head_size : length head ≡ 8 = c.told-head in
     let h : OtherHead s c.args.order head = record { size = head_size; here = c.requires.order_is; no_section = c.requires.no_section; no_interface = c.requires.no_interface; no_packet = c.requires.no_packet } in
     let body = c.in_ok-pass_over.ensures.octets in
     let tail = c.in_ok-read_tail.ensures.octets in

@@ -1,5 +1,4 @@
 use Rattle.std.proofs.Common.{◌≡◌, ℕ, ◌+◌, ◌-◌, ◌*◌, ◌^◌, ◌≤◌, false, List, [], ◌++◌, length, take, get_or, refl, sym, ap, subst, ◌∙◌, arith, lit≤, length-append}
-use Rattle.std.proofs.lemmas.Grind.{common_steps}
 use Rattle.std.proofs.lemmas.Result.{err_from_is_err_and}
 use Rattle.savi_ends.proofs.Octets.{takes_more}
 use Rattle.pcap_io.specs.Numbers.{number_at}
@@ -20,7 +19,7 @@ pub returns-then-not-is_total-clause-octets : goal.returns-then-not-is_total-cla
 returns-then-not-is_total-clause-octets g c =
     let s = standing_of c.args.position.now in
     let head = c.args.head.now in
-    let head_size : length head ≡ 8 = grind (arith, common_steps) in
+    let head_size : length head ≡ 8 = c.told-head in
     let h : PacketHead s c.args.order head = record { size = head_size; here = c.requires.order_is; kind = c.requires.kind } in (
       [],
       takes_none (g.S.Source.left c.args.source.now),
@@ -38,10 +37,10 @@ returns-in_err-take-clause-octets g c =
     let p = err_from_is_err_and c.from_residual.result c.from_residual.ensures.1 in
     let s = standing_of c.args.position.now in
     let head = c.args.head.now in
-    let head_size : length head ≡ 8 = grind (arith, common_steps) in
+    let head_size : length head ≡ 8 = c.told-head in
     let h : PacketHead s c.args.order head = record { size = head_size; here = c.requires.order_is; kind = c.requires.kind } in
     let took = c.in_err-take.ensures.octets in
-    let room : length c.take.new.buf ≡ 20 = grind (arith, common_steps, c.take.auto.buf) in
+    let room : length c.take.new.buf ≡ 20 = omega (arith, c.take.auto.buf) in
     let left = g.S.Source.left c.take.new.source in
     let short : FallsShort 20 c.in_err-take.field-0.0 took.0 left = subst (λ (n : ℕ). FallsShort n c.in_err-take.field-0.0 took.0 left) room took.2 in
     (took.0, took.1, rw (p.1, p.2) (packet_short s c.args.order head took.0 c.in_err-take.field-0.0 left h short, short_within 20 1048568 [] took.0 c.in_err-take.field-0.0 left short (lit≤ tt)))
@@ -50,11 +49,11 @@ pub returns-then-of_section-len-clause-octets : goal.returns-then-of_section-len
 returns-then-of_section-len-clause-octets g c =
     let s = standing_of c.args.position.now in
     let head = c.args.head.now in
-    let head_size : length head ≡ 8 = grind (arith, common_steps) in
+    let head_size : length head ≡ 8 = c.told-head in
     let h : PacketHead s c.args.order head = record { size = head_size; here = c.requires.order_is; kind = c.requires.kind } in
     let took = c.in_ok-take.ensures.octets in
     let fields = c.take.new.buf in
-    let size : length fields ≡ 20 = grind (arith, common_steps, c.take.auto.buf) in
+    let size : length fields ≡ 20 = omega (arith, c.take.auto.buf) in
     let first = takes_whole _ _ took.0 fields took.1 took.2 in (
       fields,
       first,
@@ -74,11 +73,11 @@ returns-in_err-take_captured-clause-octets g c =
     let p = err_from_is_err_and c.from_residual-in_err-take_captured.result c.from_residual-in_err-take_captured.ensures.1 in
     let s = standing_of c.args.position.now in
     let head = c.args.head.now in
-    let head_size : length head ≡ 8 = grind (arith, common_steps) in
+    let head_size : length head ≡ 8 = c.told-head in
     let h : PacketHead s c.args.order head = record { size = head_size; here = c.requires.order_is; kind = c.requires.kind } in
     let took = c.in_ok-take.ensures.octets in
     let fields = c.take.new.buf in
-    let size : length fields ≡ 20 = grind (arith, common_steps, c.take.auto.buf) in
+    let size : length fields ≡ 20 = omega (arith, c.take.auto.buf) in
     let first = takes_whole _ _ took.0 fields took.1 took.2 in
     let total : IsTotal s.place 32 c.number_at-total.result = c.is_total.ensures.0 (cc (c.if-not-is_total.false)) in
     let total_is : c.number_at-total.result ≡ number_at c.args.order 4 head = c.number_at-total.ensures in
@@ -99,11 +98,11 @@ returns-in_err-read_rest-clause-octets g c =
     let p = err_from_is_err_and c.from_residual-in_err-read_rest.result c.from_residual-in_err-read_rest.ensures.1 in
     let s = standing_of c.args.position.now in
     let head = c.args.head.now in
-    let head_size : length head ≡ 8 = grind (arith, common_steps) in
+    let head_size : length head ≡ 8 = c.told-head in
     let h : PacketHead s c.args.order head = record { size = head_size; here = c.requires.order_is; kind = c.requires.kind } in
     let took = c.in_ok-take.ensures.octets in
     let fields = c.take.new.buf in
-    let size : length fields ≡ 20 = grind (arith, common_steps, c.take.auto.buf) in
+    let size : length fields ≡ 20 = omega (arith, c.take.auto.buf) in
     let first = takes_whole _ _ took.0 fields took.1 took.2 in
     let total : IsTotal s.place 32 c.number_at-total.result = c.is_total.ensures.0 (cc (c.if-not-is_total.false)) in
     let total_is : c.number_at-total.result ≡ number_at c.args.order 4 head = c.number_at-total.ensures in
@@ -130,11 +129,11 @@ pub returns-then-len-gt-FRAME_OCTETS_MOST-clause-octets : goal.returns-then-len-
 returns-then-len-gt-FRAME_OCTETS_MOST-clause-octets g c =
     let s = standing_of c.args.position.now in
     let head = c.args.head.now in
-    let head_size : length head ≡ 8 = grind (arith, common_steps) in
+    let head_size : length head ≡ 8 = c.told-head in
     let h : PacketHead s c.args.order head = record { size = head_size; here = c.requires.order_is; kind = c.requires.kind } in
     let took = c.in_ok-take.ensures.octets in
     let fields = c.take.new.buf in
-    let size : length fields ≡ 20 = grind (arith, common_steps, c.take.auto.buf) in
+    let size : length fields ≡ 20 = omega (arith, c.take.auto.buf) in
     let first = takes_whole _ _ took.0 fields took.1 took.2 in
     let total : IsTotal s.place 32 c.number_at-total.result = c.is_total.ensures.0 (cc (c.if-not-is_total.false)) in
     let total_is : c.number_at-total.result ≡ number_at c.args.order 4 head = c.number_at-total.ensures in
@@ -163,11 +162,11 @@ pub returns-else-len-gt-FRAME_OCTETS_MOST-clause-octets : goal.returns-else-len-
 returns-else-len-gt-FRAME_OCTETS_MOST-clause-octets g c =
     let s = standing_of c.args.position.now in
     let head = c.args.head.now in
-    let head_size : length head ≡ 8 = grind (arith, common_steps) in
+    let head_size : length head ≡ 8 = c.told-head in
     let h : PacketHead s c.args.order head = record { size = head_size; here = c.requires.order_is; kind = c.requires.kind } in
     let took = c.in_ok-take.ensures.octets in
     let fields = c.take.new.buf in
-    let size : length fields ≡ 20 = grind (arith, common_steps, c.take.auto.buf) in
+    let size : length fields ≡ 20 = omega (arith, c.take.auto.buf) in
     let first = takes_whole _ _ took.0 fields took.1 took.2 in
     let total : IsTotal s.place 32 c.number_at-total.result = c.is_total.ensures.0 (cc (c.if-not-is_total.false)) in
     let total_is : c.number_at-total.result ≡ number_at c.args.order 4 head = c.number_at-total.ensures in

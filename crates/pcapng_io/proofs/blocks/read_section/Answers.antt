@@ -1,5 +1,4 @@
 use Rattle.std.proofs.Common.{◌≡◌, ℕ, ◌-◌, false, List, ◌++◌, length, take, Option, Some, None, Result, Err, IfNone, IfSome, sym, ap, subst, ◌∙◌, arith, [], lit≤, length-append}
-use Rattle.std.proofs.lemmas.Grind.{common_steps}
 use Rattle.std.proofs.lemmas.Result.{err_from_is_err_and}
 use Rattle.std.specs.Result.{result_ok}
 use Rattle.std.specs.Option.{ok_or}
@@ -23,9 +22,9 @@ returns-in_err-take-clause-octets g c =
     let p = err_from_is_err_and c.from_residual.result c.from_residual.ensures.1 in
     let s = standing_of c.args.position.now in
     let head = c.args.head.now in
-    let head_size : length head ≡ 8 = grind (arith, common_steps) in
+    let head_size : length head ≡ 8 = c.told-head in
     let took = c.in_err-take.ensures.octets in
-    let room : length c.take.new.buf ≡ 16 = grind (arith, common_steps, c.take.auto.buf) in
+    let room : length c.take.new.buf ≡ 16 = omega (arith, c.take.auto.buf) in
     let left = g.S.Source.left c.take.new.source in
     let short : FallsShort 16 c.in_err-take.field-0.0 took.0 left = subst (λ (n : ℕ). FallsShort n c.in_err-take.field-0.0 took.0 left) room took.2 in
     (took.0, took.1, rw (p.1, p.2) (section_short s head took.0 c.in_err-take.field-0.0 left head_size c.requires.kind short, short_within 16 1048568 [] took.0 c.in_err-take.field-0.0 left short (lit≤ tt)))
@@ -43,10 +42,10 @@ returns-in_err-order-clause-octets g c =
     let p = err_from_is_err_and c.from_residual-in_err-order.result c.from_residual-in_err-order.ensures.1 in
     let s = standing_of c.args.position.now in
     let head = c.args.head.now in
-    let head_size : length head ≡ 8 = grind (arith, common_steps) in
+    let head_size : length head ≡ 8 = c.told-head in
     let took = c.in_ok-take.ensures.octets in
     let fields = c.take.new.buf in
-    let size : length fields ≡ 16 = grind (arith, common_steps, c.take.auto.buf) in
+    let size : length fields ≡ 16 = omega (arith, c.take.auto.buf) in
     let first = takes_whole _ _ took.0 fields took.1 took.2 in
     let none : c.order_by.result ≡ None = c.ok_or.ensures.ok_part ∙ ap result_ok c.in_err-order.was in
     let no : (order : ByteOrder) → take 4 fields ≡ magic_text order → ⊥ = subst (λ (o : Option ByteOrder). IfNone o ((order : ByteOrder) → take 4 fields ≡ magic_text order → ⊥)) none c.order_by.ensures.none in
@@ -60,10 +59,10 @@ pub returns-then-half_at-ne-VERSION_MAJOR-clause-octets : goal.returns-then-half
 returns-then-half_at-ne-VERSION_MAJOR-clause-octets g c =
     let s = standing_of c.args.position.now in
     let head = c.args.head.now in
-    let head_size : length head ≡ 8 = grind (arith, common_steps) in
+    let head_size : length head ≡ 8 = c.told-head in
     let took = c.in_ok-take.ensures.octets in
     let fields = c.take.new.buf in
-    let size : length fields ≡ 16 = grind (arith, common_steps, c.take.auto.buf) in
+    let size : length fields ≡ 16 = omega (arith, c.take.auto.buf) in
     let first = takes_whole _ _ took.0 fields took.1 took.2 in
     let here = c.in_ok-order.order in
     let told : c.order_by.result ≡ Some here = c.ok_or.ensures.ok_part ∙ ap result_ok c.in_ok-order.was in
@@ -89,10 +88,10 @@ returns-in_err-read_rest-clause-octets g c =
     let p = err_from_is_err_and c.from_residual-in_err-read_rest.result c.from_residual-in_err-read_rest.ensures.1 in
     let s = standing_of c.args.position.now in
     let head = c.args.head.now in
-    let head_size : length head ≡ 8 = grind (arith, common_steps) in
+    let head_size : length head ≡ 8 = c.told-head in
     let took = c.in_ok-take.ensures.octets in
     let fields = c.take.new.buf in
-    let size : length fields ≡ 16 = grind (arith, common_steps, c.take.auto.buf) in
+    let size : length fields ≡ 16 = omega (arith, c.take.auto.buf) in
     let first = takes_whole _ _ took.0 fields took.1 took.2 in
     let here = c.in_ok-order.order in
     let told : c.order_by.result ≡ Some here = c.ok_or.ensures.ok_part ∙ ap result_ok c.in_ok-order.was in
@@ -111,10 +110,10 @@ pub returns-clause-octets : goal.returns-clause-octets
 returns-clause-octets g c =
     let s = standing_of c.args.position.now in
     let head = c.args.head.now in
-    let head_size : length head ≡ 8 = grind (arith, common_steps) in
+    let head_size : length head ≡ 8 = c.told-head in
     let took = c.in_ok-take.ensures.octets in
     let fields = c.take.new.buf in
-    let size : length fields ≡ 16 = grind (arith, common_steps, c.take.auto.buf) in
+    let size : length fields ≡ 16 = omega (arith, c.take.auto.buf) in
     let first = takes_whole _ _ took.0 fields took.1 took.2 in
     let here = c.in_ok-order.order in
     let told : c.order_by.result ≡ Some here = c.ok_or.ensures.ok_part ∙ ap result_ok c.in_ok-order.was in

@@ -1,23 +1,37 @@
-use Rattle.std.proofs.Common.{◌≡◌, ◌≢◌, ◌+◌, ◌-◌, IsTrue, ◌++◌, length, ap, ◌∙◌, arith, length-append}
-use Rattle.std.proofs.lemmas.Grind.{common_steps}
+use Rattle.std.proofs.Common.{◌≡◌, ◌≢◌, ◌+◌, ◌-◌, IsTrue, ◌++◌, length, ap, ◌∙◌, arith, length-append, ℕ, subst, []}
 use Rattle.std.proofs.lemmas.Result.{err_from_is_err_and}
 use Rattle.savi_ends.proofs.Octets.{takes_more}
 use Rattle.pcap_io.proofs.CallsJoined.{takes_whole}
 use Rattle.pcapng_io.specs.Numbers.{half_at}
 use Rattle.pcapng_io.specs.Options.{padded}
-use Rattle.pcapng_io.specs.Pieces.{AreFront}
+use Rattle.pcapng_io.specs.Pieces.{FallsShort, AreFront}
 use Rattle.pcapng_io.proofs.Fronts.{half_front}
 use Rattle.pcapng_io.proofs.Parts.{short_stops, short_behind, short_within}
 use Rattle.pcapng_io.proofs.OptionParts.{option_too_long, option_no_resolution, option_read, option_resolution_read}
 use Rattle.pcapng_io.proofs.options.read_option.Goals as goal
 use Rattle.pcapng_io.proofs.options.read_option.Goals.{else-is_interface-via-then-is_interface+else-code-eq-RESOLUTION, else-is_interface-via-else-is_interface}
 
+pub returns-in_err-take-clause-octets : goal.returns-in_err-take-clause-octets
+returns-in_err-take-clause-octets g c =
+    let p = err_from_is_err_and c.from_residual.result c.from_residual.ensures.1 in
+    let took = c.in_err-take.ensures.octets in
+    let room : length c.take.new.buf ≡ 4 = omega (arith, c.take.auto.buf) in
+    let left = g.S.Source.left c.take.new.source in
+    let short : FallsShort 4 c.in_err-take.field-0.0 took.0 left = subst (λ (n : ℕ). FallsShort n c.in_err-take.field-0.0 took.0 left) room took.2 in (
+      took.0,
+      took.1,
+      rw (p.1, p.2) (
+        short_stops (AreFront c.args.order c.args.is_interface c.args.len) 4 took.0 c.in_err-take.field-0.0 left (λ first is. omega (arith, is.0, c.requires.least)) short,
+        short_within 4 c.args.len [] took.0 c.in_err-take.field-0.0 left short c.requires.least,
+      ),
+    )
+
 pub returns-in_err-pass_over-clause-octets : goal.returns-in_err-pass_over-clause-octets
 returns-in_err-pass_over-clause-octets g c =
     let p = err_from_is_err_and c.from_residual-in_err-pass_over.result c.from_residual-in_err-pass_over.ensures.1 in
     let took = c.in_ok-take.ensures.octets in
     let head = c.take.new.buf in
-    let size : length head ≡ 4 = grind (arith, common_steps, c.take.auto.buf) in
+    let size : length head ≡ 4 = omega (arith, c.take.auto.buf) in
     let body = c.in_err-pass_over.ensures.octets in
     let left = g.S.Source.left c.pass_over.new.source in (
       head ++ body.0,
@@ -34,7 +48,7 @@ pub returns-then-code-eq-END_OF_OPTIONS-clause-octets : goal.returns-then-code-e
 returns-then-code-eq-END_OF_OPTIONS-clause-octets g c =
     let took = c.in_ok-take.ensures.octets in
     let head = c.take.new.buf in
-    let size : length head ≡ 4 = grind (arith, common_steps, c.take.auto.buf) in
+    let size : length head ≡ 4 = omega (arith, c.take.auto.buf) in
     let body = c.in_ok-pass_over.ensures.octets in (
       head ++ body.0,
       takes_more head body.0 _ _ _ (takes_whole _ _ took.0 head took.1 took.2) body.1,
@@ -49,7 +63,7 @@ pub returns-then-size-len-clause-octets : goal.returns-then-size-len-clause-octe
 returns-then-size-len-clause-octets g c =
     let took = c.in_ok-take.ensures.octets in
     let head = c.take.new.buf in
-    let size : length head ≡ 4 = grind (arith, common_steps, c.take.auto.buf) in
+    let size : length head ≡ 4 = omega (arith, c.take.auto.buf) in
     let named : c.from-value_len.result ≡ half_at c.args.order 2 head = omega (arith, c.from-value_len.ensures, c.half_at.ensures) in (
       head,
       takes_whole _ _ took.0 head took.1 took.2,
@@ -66,7 +80,7 @@ returns-in_err-units-clause-octets g c =
     let p = err_from_is_err_and c.from_residual-in_err-units.result c.from_residual-in_err-units.ensures.1 in
     let took = c.in_ok-take.ensures.octets in
     let head = c.take.new.buf in
-    let size : length head ≡ 4 = grind (arith, common_steps, c.take.auto.buf) in
+    let size : length head ≡ 4 = omega (arith, c.take.auto.buf) in
     let body = c.in_err-units.ensures.octets in (
       head ++ body.0,
       takes_more head body.0 _ _ _ (takes_whole _ _ took.0 head took.1 took.2) body.1,
@@ -84,7 +98,7 @@ pub returns-then-code-eq-RESOLUTION-clause-octets : goal.returns-then-code-eq-RE
 returns-then-code-eq-RESOLUTION-clause-octets g c =
     let took = c.in_ok-take.ensures.octets in
     let head = c.take.new.buf in
-    let size : length head ≡ 4 = grind (arith, common_steps, c.take.auto.buf) in
+    let size : length head ≡ 4 = omega (arith, c.take.auto.buf) in
     let body = c.in_ok-units.ensures.octets in (
       head ++ body.0,
       takes_more head body.0 _ _ _ (takes_whole _ _ took.0 head took.1 took.2) body.1,
@@ -101,7 +115,7 @@ returns-in_err-pass_over-2-clause-octets g c =
     let p = err_from_is_err_and c.from_residual-in_err-pass_over-2.result c.from_residual-in_err-pass_over-2.ensures.1 in
     let took = c.in_ok-take.ensures.octets in
     let head = c.take.new.buf in
-    let size : length head ≡ 4 = grind (arith, common_steps, c.take.auto.buf) in
+    let size : length head ≡ 4 = omega (arith, c.take.auto.buf) in
     let body = c.in_err-pass_over-2.ensures.octets in
     let left = g.S.Source.left c.pass_over-2.new.source in
     let len = (4 + c.padded_len-size.result) - 4 in (
@@ -119,7 +133,7 @@ pub returns-clause-octets : goal.returns-clause-octets
 returns-clause-octets g c =
     let took = c.in_ok-take.ensures.octets in
     let head = c.take.new.buf in
-    let size : length head ≡ 4 = grind (arith, common_steps, c.take.auto.buf) in
+    let size : length head ≡ 4 = omega (arith, c.take.auto.buf) in
     let body = c.in_ok-pass_over-2.ensures.octets in
     let named : c.from-value_len.result ≡ half_at c.args.order 2 head = omega (arith, c.from-value_len.ensures, c.half_at.ensures) in
     let other : IsTrue c.args.is_interface → half_at c.args.order 0 head ≢ 9 = λ is nine. elim c.else-is_interface.branch [

@@ -5,7 +5,7 @@ use Rattle.v6_chain.specs.ChainOf.{chain_of}
 use Rattle.v6_chain.proofs.Whole.{chain_of-outcome}
 use Rattle.frame_class.proofs.Layers.{message_is}
 use Rattle.ra_learn.specs.Carried.{Carried, upper_advert}
-use Rattle.ra_learn.proofs.Frames.{carried_is}
+use Rattle.ra_learn.proofs.Frames.{carried_is, carried_none}
 use Rattle.ra_learn.proofs.carried.carried_in.Goals as goal
 
 pub returns-in-Upper-clause-value : goal.returns-in-Upper-clause-value
@@ -28,3 +28,6 @@ returns-in-Unknown-clause-value c = carried_is c.args.payload.now c.in-Ok.ip (Un
 
 pub returns-in-Later-clause-value : goal.returns-in-Later-clause-value
 returns-in-Later-clause-value c = carried_is c.args.payload.now c.in-Ok.ip Later c.in-Ok.ensures.reading (c.in-Later.ensures.only (chain_of c.in-Ok.ip c.args.payload.now) (chain_of-outcome c.in-Ok.ip c.args.payload.now))
+
+pub returns-in_default-clause-value : goal.returns-in_default-clause-value
+returns-in_default-clause-value c = carried_none c.args.payload.now c.in_default.field-0 c.in_default.ensures.reading

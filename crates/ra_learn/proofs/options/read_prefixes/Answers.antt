@@ -1,10 +1,10 @@
-use Rattle.std.proofs.Common.{◌≡◌, ◌+◌, ◌-◌, ◌*◌, ◌≤◌, ◌++◌, [], ◌∷◌, length, get_or, take, drop, arith, sym, ◌∙◌, ap}
+use Rattle.std.proofs.Common.{◌≡◌, ◌+◌, ◌-◌, ◌*◌, ◌<◌, ◌≤◌, ◌++◌, ◌⊎◌, [], ◌∷◌, length, get_or, take, drop, inl, inr, arith, sym, ◌∙◌, ap}
 use Rattle.std.specs.Option.{option_to_list}
 use Rattle.std.proofs.lemmas.List.{take_rest, length-append, length-drop, length-take-le}
 use Rattle.arrayvec.specs.ArrayVec.{ArrayVec}
 use Rattle.ra_learn.specs.declared.advert.AdvertPrefix.{AdvertPrefix}
 use Rattle.ra_learn.specs.PrefixOptions.{prefix_if_counts, option_in}
-use Rattle.ra_learn.proofs.Rows.{prefixes_more, append_none}
+use Rattle.ra_learn.proofs.Rows.{prefixes_more, append_none, rows_none, row_none}
 use Rattle.ra_learn.proofs.options.read_prefixes.Goals as goal
 use Rattle.ra_learn.proofs.options.read_prefixes.Goals.{in-Some, in_default-prefix_if_counts}
 
@@ -37,3 +37,13 @@ option-preserved c =
       told = prefixes_more c.args.octets.now rest found c.match-prefix_if_counts.prefixes.items c.option.invariant.told (omega (arith, c.if-len-eq0.false, units)) (omega (arith, c.if-rest-len.false, units)) known.0;
       room = known.1;
     })
+
+pub returns-then-len-eq0 : goal.returns-then-len-eq0
+returns-then-len-eq0 c =
+    let rest = c.option.rest.now in
+    let stops : (get_or rest 1 0 ≡ 0) ⊎ (length rest < 8 * get_or rest 1 0) =
+    elim c.then-len-eq0.either [
+      | inl none ↦ inl (omega (arith, none, c.from-len.ensures))
+      | inr short ↦ inr (omega (arith, short.1, c.from-len.ensures))
+    ] in
+    rows_none c.args.octets.now rest c.option.prefixes.items c.option.invariant.told (row_none rest c.in-len2-up.len_at_least stops)

@@ -1,7 +1,10 @@
-use Rattle.std.proofs.Common.{◌≡◌, [], refl, sym, ap, subst, ◌∙◌}
+use Rattle.std.proofs.Common.{◌≡◌, ℕ, List, [], ◌++◌, Option, Some, None, IfSome, refl, sym, ap, subst, ◌∙◌, arith}
 use Rattle.pcap_io.proofs.CallsJoined.{takes_none}
+use Rattle.savi_kinds.specs.declared.entry.How.{How}
 use Rattle.savi_kinds.specs.declared.entry.How.TheVariants as how
-use Rattle.pcapng_io.specs.Readers.{State, Ended, HasFailed}
+use Rattle.pcapng_io.specs.declared.next.NgNext.{NgNext}
+use Rattle.pcapng_io.specs.Runs.{ended}
+use Rattle.pcapng_io.specs.Readers.{State, Reading, Ended, Comes, HasEnded, HasFailed, Answers}
 use Rattle.pcapng_io.specs.ReaderStates.{standing_of, state_at}
 use Rattle.pcapng_io.proofs.reader.NgReader.next.Goals as goal
 
@@ -11,3 +14,37 @@ failed_again state is = subst (λ (s : State). HasFailed s s []) is (record { st
 pub returns-in-Failed-clause-octets : goal.returns-in-Failed-clause-octets
 returns-in-Failed-clause-octets g c =
     ([], takes_none (g.S.Source.left c.args.source.now), failed_again c.args.self.now (ap (λ k. state_at k (standing_of c.self.inside.position)) (sym c.in-Failed.is) ∙ c.self.view_is))
+
+same_ended : (ending : How) (left : Option (List ℕ)) → IfSome left (λ rest. Comes (Ended ending) ([] ++ rest) (ended ending))
+same_ended ending None = tt
+same_ended ending (Some rest) = refl
+
+ended_again : (state : State) (ending : How) (left : Option (List ℕ)) → Ended ending ≡ state → HasEnded state state [] left ending
+ended_again state ending left is =
+    subst (λ (s : State). HasEnded s s [] left ending) is (record { state = refl; taken = refl; whole = same_ended ending left; near = λ at is. omega arith })
+
+answers_by : (old old' new new' : State) (gave buf : List ℕ) (left : Option (List ℕ)) (answer : NgNext) → old ≡ old' → new ≡ new' → Answers old new gave buf left answer → Answers old' new' gave buf left answer
+answers_by old old' new new' gave buf left answer olds news is =
+    subst (λ (s : State). Answers old' s gave buf left answer) news (subst (λ (s : State). Answers s new gave buf left answer) olds is)
+
+pub returns-in-Reading-clause-octets : goal.returns-in-Reading-clause-octets
+returns-in-Reading-clause-octets g c =
+    let one = c.read_on-answer.ensures.octets in
+    let s = standing_of c.read_on-answer.new.position in (
+      one.0,
+      one.1,
+      answers_by (Reading (standing_of c.self.inside.position)) c.args.self.now _ (state_at c.behind-self-inside.result s) one.0 c.read_on-answer.new.buf (g.S.Source.left c.read_on-answer.new.source) c.read_on-answer.result
+          (ap (λ k. state_at k (standing_of c.self.inside.position)) (sym c.in-Reading.is) ∙ c.self.view_is)
+          (sym (c.behind-self-inside.ensures s))
+          one.2,
+    )
+
+pub returns-in-End-clause-octets : goal.returns-in-End-clause-octets
+returns-in-End-clause-octets g c =
+    let left = g.S.Source.left c.args.source.now in
+    ([], takes_none left, ended_again c.args.self.now how.End left (ap (λ k. state_at k (standing_of c.self.inside.position)) (sym c.in-End.is) ∙ c.self.view_is))
+
+pub returns-in-Malformed-clause-octets : goal.returns-in-Malformed-clause-octets
+returns-in-Malformed-clause-octets g c =
+    let left = g.S.Source.left c.args.source.now in
+    ([], takes_none left, ended_again c.args.self.now (how.Malformed c.in-Malformed.at) left (ap (λ k. state_at k (standing_of c.self.inside.position)) (sym c.in-Malformed.is) ∙ c.self.view_is))
