@@ -65,9 +65,9 @@ folders = $(DESTDIR)$(PREFIX)/lib/tmpfiles.d
 # the second implementation, and of what the tools share, the parts that only checks and replays read stay here.
 TOOLS = $(notdir $(wildcard $(addprefix tools/,plan plan-from-learn journal-table journal-picture tell-journal panel ctl journal-keep)))
 PACKAGES = reading tools/tool_parts tools/switch_panel
-KEPT = $(addprefix reading/,checking.py conf_runs.py core_runs.py failing_calls.py learn.py line_runs.py live.py load.py \
-	making.py pcapng.py session.py) \
-	$(addprefix tools/tool_parts/,crate_list.py flooding.py plan_cases.py random_learn.py serving.py toml_cases.py)
+KEPT = $(addprefix reading/,audit.py checking.py conf_runs.py core_runs.py failing_calls.py learn.py line_runs.py live.py \
+	load.py making.py making_ipv4.py pcapng.py session.py) \
+	$(addprefix tools/tool_parts/,crate_list.py flooding.py plan_cases.py random_ipv4.py random_learn.py serving.py toml_cases.py)
 UNITS = $(notdir $(wildcard packaging/*.service packaging/*.socket packaging/*.target packaging/*.timer packaging/*.path))
 PAGES = $(notdir $(wildcard docs/*.1 docs/*.5 docs/*.8))
 # Tools whose manual page has another name.

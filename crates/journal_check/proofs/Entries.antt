@@ -30,7 +30,7 @@ use Rattle.journal_check.specs.Turns.{SaysNext, SaysWrong, SaysNothing, MadeTurn
 use Rattle.journal_check.specs.declared.openings.Before.{Before}
 use Rattle.journal_check.specs.Fronts.{DepartsAfter, front_lines, opening_lines}
 use Rattle.journal_check.specs.Openings.{BreaksAt, OpensSegment}
-use Rattle.journal_check.specs.Answers.{BeginsJournal, past_text, IsAnswerTo, HasNoLine, Ends, IfRead, IsAnswerBehind, entry_count, next_line}
+use Rattle.journal_check.specs.Answers.{past_text, IsAnswerTo, HasNoLine, Ends, IfRead, entry_count, next_line}
 use Rattle.journal_check.proofs.LineFronts.{line_avoids}
 use Rattle.journal_check.proofs.SaidFields.{fields_said}
 use Rattle.journal_check.proofs.OneAnswer.{says_avoids}
@@ -72,6 +72,7 @@ pub record IsReading (version : Version) (m : Machine) (before : Before) (whole 
   pub turned : HaveTurned m.plan (m.past ∷ closed)
   pub one : version ≡ One → closed ≡ []
   pub lines : before.lines ≡ length (front_lines Two m.plan closed)
+  pub segments : before.segments ≡ length closed
   pub entries : before.entries ≡ length (all_rows closed)
   pub told : whole ≡ in_front (past_text version m.plan closed m.past) ahead
 
@@ -94,22 +95,24 @@ told_more version plan closed past line row whole before after says told taken =
     ∙ ap (λ (t : List ℕ). in_front t after) (sym (append_assoc text (line_text n row) (10 ∷ [])))
 
 -- one more row was read
-pub read_row : (version : Version) (old new : Machine) (count : Before) (line : List ℕ) (whole before after : Option (List ℕ)) → IsReading version old count whole before
-    → before ≡ in_front (line ++ 10 ∷ []) after → MadeTurn old line new turns.Stands → IsReading version new count whole after
-read_row version old new count line whole before after r taken turned =
-    let row = turned.0 in
-    let next : SaysNext old.plan (base_after old.plan r.closed) old.past line row = subst (λ (base : Base). SaysNext old.plan base old.past line row) r.base turned.1 in
-    subst (λ (m : Machine). IsReading version m count whole after) (sym turned.2) (record {
-      closed = r.closed;
-      plan_is = r.plan_is;
-      base = r.base;
-      legal = ((next.stands, r.legal.0), All-cons (λ (q : Row). IsBytes q.octets) row old.past next.says.octets r.legal.1, r.legal.2);
-      turned = r.turned;
-      one = r.one;
-      lines = r.lines;
-      entries = r.entries;
-      told = told_more version old.plan r.closed old.past line row whole before after next.says r.told taken;
-    })
+pub read_next : (version : Version) (old : Machine) (count : Before) (line : List ℕ) (whole before after : Option (List ℕ)) (r : IsReading version old count whole before)
+    → before ≡ in_front (line ++ 10 ∷ []) after → (row : Row) → SaysNext old.plan (base_of old) old.past line row → (now : IsReading version (record old { past = row ∷ old.past }) count whole after) × (now.closed ≡ r.closed)
+read_next version old count line whole before after r taken row says =
+    let next : SaysNext old.plan (base_after old.plan r.closed) old.past line row = subst (λ (base : Base). SaysNext old.plan base old.past line row) r.base says in (
+      record {
+        closed = r.closed;
+        plan_is = r.plan_is;
+        base = r.base;
+        legal = ((next.stands, r.legal.0), All-cons (λ (q : Row). IsBytes q.octets) row old.past next.says.octets r.legal.1, r.legal.2);
+        turned = r.turned;
+        one = r.one;
+        lines = r.lines;
+        segments = r.segments;
+        entries = r.entries;
+        told = told_more version old.plan r.closed old.past line row whole before after next.says r.told taken;
+      },
+      refl,
+    )
 
 pub row_count : (old new : Machine) (line : List ℕ) → MadeTurn old line new turns.Stands → length new.past ≡ length old.past + 1
 row_count old new line turned = ap (λ (m : Machine). length m.past) turned.2 ∙ omega arith
@@ -145,12 +148,14 @@ module _ (version : Version) (old new : Machine) (before : Before) (line : List 
   old_turned = (subst (λ (b : Base). IsFinished old.plan b old.past) r.base finished, paused)
 
   -- the next segment was begun
-  pub read_turn : (next : Before) (after' : Option (List ℕ)) → OpensSegment old new before next mid after' → IsReading version new next whole after'
+  pub read_turn : (next : Before) (after' : Option (List ℕ)) → OpensSegment old new before next mid after' → (now : IsReading version new next whole after') × (now.closed ≡ old.past ∷ r.closed)
   read_turn next after' opened =
       let number = opened.lines in
       let count = front_count Two old.plan r.closed old.past in
       let opening : length (opening_lines old.plan (base_of new)) ≡ length (opening_lines old.plan (base_after old.plan closed')) = ap (λ (b : Base). length (opening_lines old.plan b)) new_base in
       let lines_are = r.lines in
+      let segments = opened.segments in
+      let segments_are = r.segments in
       let entries = opened.entries in
       let entries_are = r.entries in
       let parts = length-append old.past (all_rows r.closed) in
@@ -158,20 +163,23 @@ module _ (version : Version) (old new : Machine) (before : Before) (line : List 
       let legal_now : AreLegal old.plan ([] ∷ closed') = (tt, All-nil (λ (q : Row). IsBytes q.octets), r.legal) in
       let told_now : whole ≡ in_front (past_text version old.plan closed' []) after' =
       told_opening version old.plan r.closed old.past line whole ahead mid after' is r.told taken
-      (opened.taken ∙ ap (λ (b : Base). in_front (lines_text (opening_lines old.plan b)) after') new_base) in
-      record {
-        closed = closed';
-        plan_is = subst IsPlan (sym turn.plan) r.plan_is;
-        base = new_base ∙ ap (λ (p : Plan). base_after p closed') (sym turn.plan);
-        legal = subst (λ (past : List Row). AreLegal new.plan (past ∷ closed')) (sym turn.past) (subst (λ (p : Plan). AreLegal p ([] ∷ closed')) (sym turn.plan) legal_now);
-        turned = subst (λ (p : Plan). HaveTurned p (new.past ∷ closed')) (sym turn.plan) (old_turned, r.turned);
-        one = λ one. absurd (one_not_two two one);
-        lines = lines_now ∙ ap (λ (p : Plan). length (front_lines Two p closed')) (sym turn.plan);
-        entries = omega (arith, entries, entries_are, parts);
-        told = told_now
-            ∙ ap (λ (p : Plan). in_front (past_text version p closed' []) after') (sym turn.plan)
-            ∙ ap (λ (past : List Row). in_front (past_text version new.plan closed' past) after') (sym turn.past);
-      }
+      (opened.taken ∙ ap (λ (b : Base). in_front (lines_text (opening_lines old.plan b)) after') new_base) in (
+        record {
+          closed = closed';
+          plan_is = subst IsPlan (sym turn.plan) r.plan_is;
+          base = new_base ∙ ap (λ (p : Plan). base_after p closed') (sym turn.plan);
+          legal = subst (λ (past : List Row). AreLegal new.plan (past ∷ closed')) (sym turn.past) (subst (λ (p : Plan). AreLegal p ([] ∷ closed')) (sym turn.plan) legal_now);
+          turned = subst (λ (p : Plan). HaveTurned p (new.past ∷ closed')) (sym turn.plan) (old_turned, r.turned);
+          one = λ one. absurd (one_not_two two one);
+          lines = lines_now ∙ ap (λ (p : Plan). length (front_lines Two p closed')) (sym turn.plan);
+          segments = omega (arith, segments, segments_are);
+          entries = omega (arith, entries, entries_are, parts);
+          told = told_now
+              ∙ ap (λ (p : Plan). in_front (past_text version p closed' []) after') (sym turn.plan)
+              ∙ ap (λ (past : List Row). in_front (past_text version new.plan closed' past) after') (sym turn.past);
+        },
+        refl,
+      )
 
   -- or the lines in front of its entries break off
   breaks_off : (rest : List ℕ) (a : Checked) → BreaksAt (opening_lines old.plan (base_of new)) (before.lines + length old.past + 1) rest a → IsAnswerTo version old.plan r.closed old.past (line ++ 10 ∷ rest) a
@@ -215,28 +223,8 @@ bad_end version past behind rest told alone (inl paused) = inr (paused, one_vers
 bad_end version past behind rest told alone (inr more) = inl (more.0, told_some (λ (t : List ℕ). t ≢ []) behind rest told more.1)
 
 module _ (version : Version) (m : Machine) (before : Before) (whole ahead : Option (List ℕ)) (r : IsReading version m before whole ahead) where
-  abbrev Answers : Checked → List ℕ → Type 0
+  abbrev pub Answers : Checked → List ℕ → Type 0
   Answers a rest = IsAnswerTo version m.plan r.closed m.past rest a
-
-  behind_at : (rest : Option (List ℕ)) (a : Checked) → whole ≡ in_front (past_text version m.plan r.closed m.past) rest → IfSome rest (Answers a) → IfSome whole (λ octets. IsAnswerBehind octets a)
-  behind_at None a told judges = rw told tt
-  behind_at (Some rest) a told judges = rw told (record {
-    version = version;
-    plan = m.plan;
-    closed = r.closed;
-    past = m.past;
-    rest = rest;
-    begins = record { plan_is = r.plan_is; legal = r.legal; turned = r.turned; one = r.one; text = refl };
-    judges = judges;
-  })
-
-  -- an answer behind a past is one of the whole text
-  answered : (a : Checked) → IfRead a (IfSome ahead (Answers a)) → IfRead a (IfSome whole (λ octets. IsAnswerBehind octets a))
-  answered (Good entries) judges = behind_at ahead (Good entries) r.told judges
-  answered (Wrong entry want have) judges = behind_at ahead (Wrong entry want have) r.told judges
-  answered (BadLine n) judges = behind_at ahead (BadLine n) r.told judges
-  answered Failed judges = tt
-  answered NoMemory judges = tt
 
   number_is : (n : ℕ) → n ≡ before.lines + length m.past + 1 → n ≡ next_line m.plan r.closed m.past
   number_is n is = is ∙ line_number version m before whole ahead r
@@ -245,11 +233,11 @@ module _ (version : Version) (m : Machine) (before : Before) (whole ahead : Opti
   entry_is n is = is ∙ entry_number version m before whole ahead r
 
   pub judged_wrong : (line : List ℕ) (after' : Option (List ℕ)) (entry : ℕ) (want have : List ℕ) → ahead ≡ in_front (line ++ 10 ∷ []) after'
-      → entry ≡ before.entries + length m.past → SaysWrong m.plan (base_of m) m.past line want have → IfSome whole (λ octets. IsAnswerBehind octets (Wrong entry want have))
+      → entry ≡ before.entries + length m.past → SaysWrong m.plan (base_of m) m.past line want have → IfSome ahead (Answers (Wrong entry want have))
   judged_wrong line after' entry want have taken number says =
       let wrong = subst (λ (b : Base). SaysWrong m.plan b m.past line want have) r.base says in
-      answered (Wrong entry want have) (begun (Answers (Wrong entry want have)) line ahead after' taken
-      (λ rest is. (entry_is entry number, record { line = line; row = wrong.row; more = rest; says = wrong.says; text = refl; differs = wrong.differs })))
+      begun (Answers (Wrong entry want have)) line ahead after' taken
+      (λ rest is. (entry_is entry number, record { line = line; row = wrong.row; more = rest; says = wrong.says; text = refl; differs = wrong.differs }))
 
   no_line : (line rest : List ℕ) → HasNoFeed line → SaysNothing m.plan (base_after m.plan r.closed) m.past line → HasNoLine m.plan (base_after m.plan r.closed) m.past (line ++ 10 ∷ rest)
   no_line line rest plain nothing = record {
@@ -262,10 +250,10 @@ module _ (version : Version) (m : Machine) (before : Before) (whole ahead : Opti
   }
 
   pub judged_bad : (line : List ℕ) (after' : Option (List ℕ)) (n : ℕ) → ahead ≡ in_front (line ++ 10 ∷ []) after' → n ≡ before.lines + length m.past + 1 → HasNoFeed line
-      → SaysNothing m.plan (base_of m) m.past line → IfSome whole (λ octets. IsAnswerBehind octets (BadLine n))
+      → SaysNothing m.plan (base_of m) m.past line → IfSome ahead (Answers (BadLine n))
   judged_bad line after' n taken number plain says =
       let nothing = subst (λ (b : Base). SaysNothing m.plan b m.past line) r.base says in
-      answered (BadLine n) (begun (Answers (BadLine n)) line ahead after' taken (λ rest is. inl (number_is n number, no_line line rest plain nothing)))
+      begun (Answers (BadLine n)) line ahead after' taken (λ rest is. inl (number_is n number, no_line line rest plain nothing))
 
   broken_at : (rest : List ℕ) → length m.past < 2 ^ 64 → BeginsWithNoLine rest → HasNoLine m.plan (base_after m.plan r.closed) m.past rest
   broken_at rest few none = record {
@@ -279,8 +267,8 @@ module _ (version : Version) (m : Machine) (before : Before) (whole ahead : Opti
   broken_in None n number few none = tt
   broken_in (Some rest) n number few none = inl (number_is n number, broken_at rest few none)
 
-  pub judged_broken : (n : ℕ) → n ≡ before.lines + length m.past + 1 → length m.past < 2 ^ 64 → IfSome ahead BeginsWithNoLine → IfSome whole (λ octets. IsAnswerBehind octets (BadLine n))
-  judged_broken n number few none = answered (BadLine n) (broken_in ahead n number few none)
+  pub judged_broken : (n : ℕ) → n ≡ before.lines + length m.past + 1 → length m.past < 2 ^ 64 → IfSome ahead BeginsWithNoLine → IfSome ahead (Answers (BadLine n))
+  judged_broken n number few none = broken_in ahead n number few none
 
   -- behind the last line
 
@@ -314,9 +302,9 @@ module _ (version : Version) (m : Machine) (before : Before) (whole ahead : Opti
 
   pub judged_last : (line : List ℕ) (after' : Option (List ℕ)) (entries number : ℕ) (a : Checked) → ahead ≡ in_front (line ++ 10 ∷ []) after' → entries ≡ before.entries + length m.past → number ≡ before.lines + length m.past + 1
       → IsFinished m.plan (base_of m) m.past → line ≡ joined (journal_end_line (length m.past)) → ((version ≡ Two) × (has_pause m.past ≡ true) → ⊥)
-      → Ends m.past entries number after' a → IfRead a (IfSome whole (λ octets. IsAnswerBehind octets a))
+      → Ends m.past entries number after' a → IfRead a (IfSome ahead (Answers a))
   judged_last line after' entries number a taken count at finished is alone ends =
-      answered a (last_answer line after' entries number a taken count at (subst (λ (b : Base). IsFinished m.plan b m.past) r.base finished) is alone ends)
+      last_answer line after' entries number a taken count at (subst (λ (b : Base). IsFinished m.plan b m.past) r.base finished) is alone ends
 
   -- the answer where the lines in front of the next segment's entries break off
   opening_in : (new : Machine) (line : List ℕ) (mid : Option (List ℕ)) (a : Checked) → ahead ≡ in_front (line ++ 10 ∷ []) mid → IsFinished m.plan (base_of m) m.past
@@ -327,16 +315,11 @@ module _ (version : Version) (m : Machine) (before : Before) (whole ahead : Opti
       (λ rest told. breaks_off version m new before line whole ahead mid r taken finished is two paused turn rest a
       (told_some (λ (t : List ℕ). BreaksAt (opening_lines m.plan (base_of new)) (before.lines + length m.past + 1) t a) mid rest told breaks))
 
-  opening_answer : (new : Machine) (line : List ℕ) (mid : Option (List ℕ)) (a : Checked) → ahead ≡ in_front (line ++ 10 ∷ []) mid → IsFinished m.plan (base_of m) m.past
-      → line ≡ joined (journal_end_line (length m.past)) → version ≡ Two → has_pause m.past ≡ true → IsTurned m new
-      → IfRead a (IfSome mid (λ octets. BreaksAt (opening_lines m.plan (base_of new)) (before.lines + length m.past + 1) octets a)) → IfRead a (IfSome ahead (Answers a))
-  opening_answer new line mid (Good n) taken finished is two paused turn breaks = opening_in new line mid (Good n) taken finished is two paused turn breaks
-  opening_answer new line mid (Wrong n want have) taken finished is two paused turn breaks = opening_in new line mid (Wrong n want have) taken finished is two paused turn breaks
-  opening_answer new line mid (BadLine n) taken finished is two paused turn breaks = opening_in new line mid (BadLine n) taken finished is two paused turn breaks
-  opening_answer new line mid Failed taken finished is two paused turn breaks = tt
-  opening_answer new line mid NoMemory taken finished is two paused turn breaks = tt
-
   pub judged_opening : (new : Machine) (line : List ℕ) (mid : Option (List ℕ)) (a : Checked) → ahead ≡ in_front (line ++ 10 ∷ []) mid → IsFinished m.plan (base_of m) m.past
       → line ≡ joined (journal_end_line (length m.past)) → version ≡ Two → has_pause m.past ≡ true → IsTurned m new
-      → IfRead a (IfSome mid (λ octets. BreaksAt (opening_lines m.plan (base_of new)) (before.lines + length m.past + 1) octets a)) → IfRead a (IfSome whole (λ octets. IsAnswerBehind octets a))
-  judged_opening new line mid a taken finished is two paused turn breaks = answered a (opening_answer new line mid a taken finished is two paused turn breaks)
+      → IfRead a (IfSome mid (λ octets. BreaksAt (opening_lines m.plan (base_of new)) (before.lines + length m.past + 1) octets a)) → IfRead a (IfSome ahead (Answers a))
+  judged_opening new line mid (Good n) taken finished is two paused turn breaks = opening_in new line mid (Good n) taken finished is two paused turn breaks
+  judged_opening new line mid (Wrong n want have) taken finished is two paused turn breaks = opening_in new line mid (Wrong n want have) taken finished is two paused turn breaks
+  judged_opening new line mid (BadLine n) taken finished is two paused turn breaks = opening_in new line mid (BadLine n) taken finished is two paused turn breaks
+  judged_opening new line mid Failed taken finished is two paused turn breaks = tt
+  judged_opening new line mid NoMemory taken finished is two paused turn breaks = tt

@@ -22,6 +22,9 @@ pub mod ShortLines
 pub mod ShortFields
 pub mod FieldsCut
 pub mod Entries
+pub mod Watching
+pub mod OneWatch
+pub mod NewestRows
 pub mod Whole
 pub mod PutEvents
 pub mod OpenPasses

@@ -19,9 +19,9 @@ use Rattle.journal_check.specs.declared.answer.Checked.{Checked}
 use Rattle.journal_check.specs.declared.answer.Checked.TheVariants.{BadLine}
 use Rattle.journal_check.specs.Seen.{seen}
 use Rattle.journal_check.specs.Headers.{plan_lines}
-use Rattle.journal_check.specs.Fronts.{front_lines, opening_lines}
+use Rattle.journal_check.specs.Fronts.{opening_lines}
 use Rattle.journal_check.specs.Answers.{past_text, IsAnswerTo, IsBadHeader, IsAnswerBehind}
-use Rattle.journal_check.specs.Laws.{AreSaid, HasOneAnswer}
+use Rattle.journal_check.specs.Laws.{AreSaid, HasOneAnswer, HasOneHistory}
 use Rattle.journal_check.specs.Differing.{row_event}
 use Rattle.journal_check.proofs.LegalFields.{legal_said}
 use Rattle.journal_check.proofs.OneHeader.{bad_once, not_bad, one_plan}
@@ -39,6 +39,26 @@ LeaveWithin = (plan : Plan) (segments : Segments) → IsValidPlan plan → AreLe
 -- What comes behind a history, the oldest first: a row, or the turn to the next segment.
 abbrev Step : Type 0
 Step = Option Row
+
+-- two histories and answers are the same
+record AreOne (steps steps' : List Step) (a b : Checked) : Type 0 where
+  steps_are : steps ≡ steps'
+  one : a ≡ b
+
+one_more : (step : Step) (steps steps' : List Step) (a b : Checked) → AreOne steps steps' a b → AreOne (step ∷ steps) (step ∷ steps') a b
+one_more step steps steps' a b are = record { steps_are = ap (λ (later : List Step). step ∷ later) are.steps_are; one = are.one }
+
+-- the segments that are closed and the rows behind them, of all steps
+
+abbrev closed_of : Segments → List Row → List Step → Segments
+closed_of closed past [] = closed
+closed_of closed past (Some row ∷ steps) = closed_of closed (row ∷ past) steps
+closed_of closed past (None ∷ steps) = closed_of (past ∷ closed) [] steps
+
+abbrev past_of : Segments → List Row → List Step → List Row
+past_of closed past [] = past
+past_of closed past (Some row ∷ steps) = past_of closed (row ∷ past) steps
+past_of closed past (None ∷ steps) = past_of (past ∷ closed) [] steps
 
 one_not_two : (version : Version) → version ≡ Two → version ≡ One → ⊥
 one_not_two version two one = let apart : Two ≡ One = sym two ∙ one in cc
@@ -94,6 +114,28 @@ module _ (version : Version) (plan : Plan) where
   abbrev all_steps : Segments → List Row → List Step
   all_steps closed past = segments_before closed (rows_before past [])
 
+  closed_rows : (closed : Segments) (past : List Row) (steps : List Step) → closed_of closed [] (rows_before past steps) ≡ closed_of closed past steps
+  closed_rows closed [] steps = refl
+  closed_rows closed (row ∷ past) steps = closed_rows closed past (Some row ∷ steps)
+
+  past_rows : (closed : Segments) (past : List Row) (steps : List Step) → past_of closed [] (rows_before past steps) ≡ past_of closed past steps
+  past_rows closed [] steps = refl
+  past_rows closed (row ∷ past) steps = past_rows closed past (Some row ∷ steps)
+
+  closed_segments : (closed : Segments) (steps : List Step) → closed_of [] [] (segments_before closed steps) ≡ closed_of closed [] steps
+  closed_segments [] steps = refl
+  closed_segments (segment ∷ before) steps = closed_segments before (rows_before segment (None ∷ steps)) ∙ closed_rows before segment (None ∷ steps)
+
+  past_segments : (closed : Segments) (steps : List Step) → past_of [] [] (segments_before closed steps) ≡ past_of closed [] steps
+  past_segments [] steps = refl
+  past_segments (segment ∷ before) steps = past_segments before (rows_before segment (None ∷ steps)) ∙ past_rows before segment (None ∷ steps)
+
+  closed_all : (closed : Segments) (past : List Row) → closed_of [] [] (all_steps closed past) ≡ closed
+  closed_all closed past = closed_segments closed (rows_before past []) ∙ closed_rows closed past []
+
+  past_all : (closed : Segments) (past : List Row) → past_of [] [] (all_steps closed past) ≡ past
+  past_all closed past = past_segments closed (rows_before past []) ∙ past_rows closed past []
+
   next_rows : (closed : Segments) (past : List Row) (steps : List Step) → IsLegal plan (base_after plan closed) past → AreSaid past → AreNext closed past steps → AreNext closed [] (rows_before past steps)
   next_rows closed [] steps legal said next = next
   next_rows closed (row ∷ past) steps legal said next = next_rows closed past (Some row ∷ steps) legal.1 said.1 (record { stands = legal.0; says = said.0 }, next)
@@ -144,9 +186,9 @@ module _ (version : Version) (plan : Plan) where
   row_or_turn closed past row more rest next e = entry_not_last (line_text (length past) row) (length past) (length past) (row_said row) more rest next.says e
 
   once_from : (closed : Segments) (past : List Row) (steps steps' : List Step) (rest rest' : List ℕ) (a b : Checked) → AreNext closed past steps → AreNext closed past steps'
-      → text_from closed past steps rest ≡ text_from closed past steps' rest' → IsAnswerFrom closed past steps rest a → IsAnswerFrom closed past steps' rest' b → a ≡ b
+      → text_from closed past steps rest ≡ text_from closed past steps' rest' → IsAnswerFrom closed past steps rest a → IsAnswerFrom closed past steps' rest' b → AreOne steps steps' a b
   once_from closed past [] [] rest rest' a b next next' text judges judges' =
-      judge_once version plan closed past rest a b judges (subst (λ (t : List ℕ). IsAnswerTo version plan closed past t b) (sym text) judges')
+      record { steps_are = refl; one = judge_once version plan closed past rest a b judges (subst (λ (t : List ℕ). IsAnswerTo version plan closed past t b) (sym text) judges') }
   once_from closed past [] (Some row ∷ steps) rest rest' a b next next' text judges judges' =
       absurd (judge_stands version plan closed past rest (text_from closed (row ∷ past) steps rest') row a next'.0.stands next'.0.says text judges)
   once_from closed past [] (None ∷ steps) rest rest' a b next next' text judges judges' =
@@ -163,8 +205,8 @@ module _ (version : Version) (plan : Plan) where
       let opening = lines_text (opening_lines plan (base_after plan (past ∷ closed))) in
       let one = text_from (past ∷ closed) [] steps rest in
       let other = text_from (past ∷ closed) [] steps' rest' in
-      once_from (past ∷ closed) [] steps steps' rest rest' a b next.1 next'.1
-      (append_cancel_left opening one other (append_cancel_left (journal_end_text (length past)) (opening ++ one) (opening ++ other) text)) judges judges'
+      one_more None steps steps' a b (once_from (past ∷ closed) [] steps steps' rest rest' a b next.1 next'.1
+      (append_cancel_left opening one other (append_cancel_left (journal_end_text (length past)) (opening ++ one) (opening ++ other) text)) judges judges')
   once_from closed past (Some row ∷ steps) (Some row' ∷ steps') rest rest' a b next next' text judges judges' =
       let base = base_after plan closed in
       let parts = entry_once (line_text (length past) row) (line_text (length past) row') (length past) (row_said row) (row_said row')
@@ -173,7 +215,7 @@ module _ (version : Version) (plan : Plan) where
       let next'' = subst (λ (r : Row). AreNext closed (r ∷ past) steps') (sym same) next'.1 in
       let text' : text_from closed (row ∷ past) steps rest ≡ text_from closed (row ∷ past) steps' rest' = parts.1 ∙ ap (λ (r : Row). text_from closed (r ∷ past) steps' rest') (sym same) in
       let judges'' = subst (λ (r : Row). IsAnswerFrom closed (r ∷ past) steps' rest' b) (sym same) judges' in
-      once_from closed (row ∷ past) steps steps' rest rest' a b next.1 next'' text' judges judges''
+      subst (λ (r : Row). AreOne (Some row ∷ steps) (Some r ∷ steps') a b) same (one_more (Some row) steps steps' a b (once_from closed (row ∷ past) steps steps' rest rest' a b next.1 next'' text' judges judges''))
 
 -- whole texts
 
@@ -201,8 +243,16 @@ record IsFrom (version : Version) (plan : Plan) (steps : List Step) (rest : List
   next : AreNext version plan [] [] steps
   judges : IsAnswerFrom version plan [] [] steps rest a
 
-behind_once : LeaveWithin → (octets : List ℕ) (a b : Checked) → IsAnswerBehind octets a → IsAnswerBehind octets b → a ≡ b
-behind_once within octets a b x y =
+-- what two answers behind a header come to
+record AreAlike (octets : List ℕ) (a b : Checked) (x : IsAnswerBehind octets a) (y : IsAnswerBehind octets b) : Type 0 where
+  answers : a ≡ b
+  versions : x.version ≡ y.version
+  plans : x.plan ≡ y.plan
+  closed_are : x.closed ≡ y.closed
+  past_are : x.past ≡ y.past
+
+behind_alike : LeaveWithin → (octets : List ℕ) (a b : Checked) (x : IsAnswerBehind octets a) (y : IsAnswerBehind octets b) → AreAlike octets a b x y
+behind_alike within octets a b x y =
     let steps = steps_of within octets a x in
     let steps' = steps_of within octets b y in
     let same = one_plan x.version y.version x.plan y.plan (text_from x.version x.plan [] [] steps x.rest) (text_from y.version y.plan [] [] steps' y.rest) x.begins.plan_is y.begins.plan_is
@@ -213,7 +263,14 @@ behind_once within octets a b x y =
     let text : text_from x.version x.plan [] [] steps x.rest ≡ text_from x.version x.plan [] [] steps' y.rest =
     same.rests ∙ ap (λ (p : Plan). text_from y.version p [] [] steps' y.rest) (sym same.plans)
     ∙ ap (λ (v : Version). text_from v x.plan [] [] steps' y.rest) (sym same.versions) in
-    once_from x.version x.plan [] [] steps steps' x.rest y.rest a b (whole_next within octets a x) other'.next text (whole_judges within octets a x) other'.judges
+    let are = once_from x.version x.plan [] [] steps steps' x.rest y.rest a b (whole_next within octets a x) other'.next text (whole_judges within octets a x) other'.judges in
+    record {
+      answers = are.one;
+      versions = same.versions;
+      plans = same.plans;
+      closed_are = sym (closed_all x.version x.plan x.closed x.past) ∙ ap (closed_of [] []) are.steps_are ∙ closed_all y.version y.plan y.closed y.past;
+      past_are = sym (past_all x.version x.plan x.closed x.past) ∙ ap (past_of [] []) are.steps_are ∙ past_all y.version y.plan y.closed y.past;
+    }
 
 header_apart : LeaveWithin → (octets : List ℕ) (a b : Checked) → IsBadHeader octets a → IsAnswerBehind octets b → ⊥
 header_apart within octets a b x y =
@@ -224,7 +281,13 @@ pub seen_once : LeaveWithin → (octets : List ℕ) (a b : Checked) → IsBadHea
 seen_once within octets a b (inl x) (inl y) = x.2 ∙ ap BadLine (bad_once octets x.0 y.0 x.1 y.1) ∙ sym y.2
 seen_once within octets a b (inl x) (inr y) = absurd (header_apart within octets a b x y)
 seen_once within octets a b (inr x) (inl y) = absurd (header_apart within octets b a y x)
-seen_once within octets a b (inr x) (inr y) = behind_once within octets a b x y
+seen_once within octets a b (inr x) (inr y) = let are = behind_alike within octets a b x y in are.answers
 
 pub one_answer : LeaveWithin → HasOneAnswer
 one_answer within = λ octets a b x y. seen_once within (seen octets) a b x y
+
+pub one_history : LeaveWithin → HasOneHistory
+one_history within = λ octets a b x. (
+  (λ bad. header_apart within octets b a bad x),
+  (λ y. let are = behind_alike within octets a b x y in (are.versions, are.plans, are.closed_are, are.past_are)),
+)

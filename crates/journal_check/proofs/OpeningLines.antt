@@ -17,7 +17,7 @@ use Rattle.journal_check.specs.Openings.{BreaksAt}
 use Rattle.journal_check.specs.Answers.{IfRead}
 use Rattle.journal_check.proofs.LineFronts.{avoids_plain}
 
-some_same : (s t : List ℕ) → Some s ≡ Some t → s ≡ t
+pub some_same : (s t : List ℕ) → Some s ≡ Some t → s ≡ t
 some_same s t e = ap (λ (o : Option (List ℕ)). unwrap_or o s) e
 
 -- lines, cut in front of one

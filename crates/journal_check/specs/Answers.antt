@@ -101,6 +101,14 @@ pub record IsAnswerBehind (octets : List ℕ) (answer : Checked) : Type 0 where
 abbrev pub IsBadHeader : List ℕ → Checked → Type 0
 IsBadHeader octets answer = (n : ℕ) × HasBadHeader octets n × (answer ≡ BadLine n)
 
+-- an answer in front of the first entry: a line is bad, a read failed or memory is wanting
+abbrev pub IsBeforeEntries : Checked → Type 0
+IsBeforeEntries (Good entries) = ⊥
+IsBeforeEntries (Wrong entry want have) = ⊥
+IsBeforeEntries (BadLine n) = Unit {0}
+IsBeforeEntries Failed = Unit {0}
+IsBeforeEntries NoMemory = Unit {0}
+
 abbrev pub IsAnswer : List ℕ → Checked → Type 0
 IsAnswer octets answer = IsBadHeader (seen octets) answer ⊎ IsAnswerBehind (seen octets) answer
 

@@ -16,11 +16,19 @@ use Rattle.savi_segments.specs.Journals.{IsJournalOf}
 use Rattle.journal_check.specs.declared.answer.Checked.{Checked}
 use Rattle.journal_check.specs.declared.answer.Checked.TheVariants.{Good}
 use Rattle.journal_check.specs.Headers.{IsPlan}
-use Rattle.journal_check.specs.Answers.{IsAnswer}
+use Rattle.journal_check.specs.Answers.{IsAnswer, IsAnswerBehind, IsBadHeader}
 
 -- no octets have two answers
 abbrev pub HasOneAnswer : Type 0
 HasOneAnswer = (octets : List ℕ) (a b : Checked) → IsAnswer octets a → IsAnswer octets b → a ≡ b
+
+-- Octets with an answer behind a header have no bad header, and their header and the history in front of the rest are the
+-- same, whichever way they are read.
+abbrev pub HasOneHistory : Type 0
+HasOneHistory =
+    (octets : List ℕ) (a b : Checked) (is : IsAnswerBehind octets a)
+    → (IsBadHeader octets b → ⊥)
+    × ((other : IsAnswerBehind octets b) → (is.version ≡ other.version) × (is.plan ≡ other.plan) × (is.closed ≡ other.closed) × (is.past ≡ other.past))
 
 -- the octets stand for the segments of a whole session, from its start to its end, with so many entries in all
 pub record IsFinishedJournal (octets : List ℕ) (entries : ℕ) : Type 0 where

@@ -12,4 +12,5 @@ pub mod Turns
 pub mod Openings
 pub mod Judging
 pub mod Answers
+pub mod Watched
 pub mod Laws

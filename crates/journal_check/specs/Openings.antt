@@ -13,6 +13,7 @@ use Rattle.journal_check.specs.Fronts.{DepartsAfter, opening_lines}
 pub record OpensSegment (old new : Machine) (before next : Before) (ahead behind : Option (List ℕ)) : Type 0 where
   pub lines : next.lines ≡ before.lines + length old.past + 1 + length (opening_lines old.plan (base_of new))
   pub entries : next.entries ≡ before.entries + length old.past
+  pub segments : next.segments ≡ before.segments + 1
   pub taken : ahead ≡ in_front (lines_text (opening_lines old.plan (base_of new))) behind
 
 -- they break off behind so many lines of the text, which is told

@@ -13,7 +13,7 @@ ghost use Rattle.journal_check.specs.ListLines.{AreLists, list_lines, plan_by};
 ghost use Rattle.journal_check.specs.declared.settings.Settings.{Settings};
 ghost use Rattle.journal_check.specs.declared.answer.Checked.{Checked};
 ghost use Rattle.journal_check.specs.Judging.{checked_of};
-ghost use Rattle.journal_check.specs.Answers.{IfRead, IsBadHeader};
+ghost use Rattle.journal_check.specs.Answers.{IfRead, IsBadHeader, IsBeforeEntries};
 
 use crate::answer::Judged;
 use crate::lines::{Lines, Taken};
@@ -41,6 +41,7 @@ pub fn read_header<S: Source>(
     ensures plan { IfOk result (λ read. IsPlan read.1
         × (to_come lines.old (S.left source.old) ≡ in_front (head_text read.0 read.1) (to_come lines.new (S.left source.new)))) }
     ensures passed { IfOk result (λ read. HasPassed lines.old (S.left source.old) lines.new (S.left source.new)) }
+    ensures fault { IfErr result (λ judged. IsBeforeEntries (checked_of judged)) }
     ensures bad { IfErr result (λ judged. IfRead (checked_of judged) (IfSome (to_come lines.old (S.left source.old)) (λ octets. IsBadHeader octets (checked_of judged)))) }
 {
     let mut line = ArrayVec::new();
@@ -74,6 +75,7 @@ fn read_settings<S: Source>(
     ensures settings { IfOk result (λ settings. AreSettings settings
         × (to_come lines.old (S.left source.old) ≡ in_front (lines_text (setting_lines settings)) (to_come lines.new (S.left source.new)))) }
     ensures passed { IfOk result (λ settings. HasPassed lines.old (S.left source.old) lines.new (S.left source.new)) }
+    ensures fault { IfErr result (λ judged. IsBeforeEntries (checked_of judged)) }
     ensures bad { IfErr result (λ judged. IfRead (checked_of judged) (IfSome (to_come lines.old (S.left source.old)) (λ octets. IsBadHeader octets (checked_of judged)))) }
 {
     let mut settings = Settings::new();
@@ -116,6 +118,7 @@ fn read_lists<S: Source>(
     ensures lists { IfOk result (λ lists. AreLists lists.ports.items lists.prefixes.items × (0 < length lists.ports.items)
         × (to_come lines.old (S.left source.old) ≡ in_front (lines_text (list_lines lists.ports.items lists.prefixes.items ++ begin_line ∷ [])) (to_come lines.new (S.left source.new)))) }
     ensures passed { IfOk result (λ lists. HasPassed lines.old (S.left source.old) lines.new (S.left source.new)) }
+    ensures fault { IfErr result (λ judged. IsBeforeEntries (checked_of judged)) }
     ensures bad { IfErr result (λ judged. IfRead (checked_of judged) ((settings : Settings) → AreSettings settings
         → IfSome (in_front (lines_text (setting_lines settings)) (to_come lines.old (S.left source.old))) (λ octets. IsBadHeader octets (checked_of judged)))) }
 {

@@ -1,12 +1,19 @@
 //! What the answers of a check come to. Each function does nothing: its contract is the law.
 
-ghost use Rattle.journal_check.specs.Laws.{GoodIsJournal, HasOneAnswer, JournalIsGood, JournalsLackNames, LegalIsSaid, WrittenIsGood};
+ghost use Rattle.journal_check.specs.Laws.{GoodIsJournal, HasOneAnswer, HasOneHistory, JournalIsGood, JournalsLackNames, LegalIsSaid, WrittenIsGood};
 
 use savi_segments::segments_leave_what_their_rows_leave;
 
 /// Law: no octets have two answers.
 pub fn octets_have_one_answer()
     ensures { HasOneAnswer }
+{
+    segments_leave_what_their_rows_leave();
+}
+
+/// Law: octets with an answer behind a header have no other header, and one history in front of what the answer is of.
+pub fn octets_have_one_history()
+    ensures { HasOneHistory }
 {
     segments_leave_what_their_rows_leave();
 }

@@ -22,10 +22,13 @@ mod reading;
 mod settings;
 mod turns;
 mod vlans;
+mod watcher;
 
 pub use answer::{Checked, FIELD_OCTETS, FieldText};
 pub use laws::{
     a_journal_is_good, a_written_journal_is_good, journals_lack_names,
-    legal_numbers_fit_their_fields, octets_have_one_answer, what_is_good_is_a_journal,
+    legal_numbers_fit_their_fields, octets_have_one_answer, octets_have_one_history,
+    what_is_good_is_a_journal,
 };
-pub use reading::check;
+pub use reading::{check, check_with};
+pub use watcher::{NoWatcher, Watcher};

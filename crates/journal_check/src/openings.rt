@@ -24,10 +24,11 @@ use hist_store::JournalLine;
 use savi_core::Core;
 use savi_ends::Source;
 
-/// What stands before the entries of a segment: how many lines, and how many entries of the segments before it.
+/// What stands before the entries of a segment: how many lines, and how many segments, with how many entries.
 #[derive(Clone, Copy, PartialEq, Eq, Debug)]
 pub struct Before {
     pub lines: u64,
+    pub segments: u64,
     pub entries: u64,
 }
 
@@ -44,6 +45,7 @@ pub fn begin_segment<S: Source>(
     requires finished { IsFinished core.old.plan (base_of core.old) core.old.past }
     requires paused { has_pause core.old.past ≡ true }
     requires lines { before.lines + length core.old.past < 2 ^ 63 }
+    requires segments { before.segments < 2 ^ 63 }
     requires entries { before.entries + length core.old.past < 2 ^ 63 }
     ensures later { S.faults source.old ≤ S.faults source.new }
     ensures cause { IfErr result (λ judged. judged ≡ Judged.Failed → Rose (S.faults source.old) (S.faults source.new)) }
@@ -61,6 +63,7 @@ pub fn begin_segment<S: Source>(
     let count = read_opening(core, lines_before, lines, source, line)?;
     Ok(Before {
         lines: lines_before + count,
+        segments: before.segments + 1,
         entries,
     })
 }

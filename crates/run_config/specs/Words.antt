@@ -1,7 +1,7 @@
 -- The forms of the command line.
 use Rattle.std.specs.Prelude.{◌≡◌, ◌≤◌, ℕ, List, [], ◌∷◌, codes, decimal, ◌⊎◌}
 use Rattle.run_config.specs.declared.asked.Asked.{Asked}
-use Rattle.run_config.specs.declared.asked.Asked.TheVariants.{Replay, Serve, Check, Generate, Split, Learn, NoForm}
+use Rattle.run_config.specs.declared.asked.Asked.TheVariants.{Replay, Serve, Check, Audit, Generate, Split, Learn, NoForm}
 
 -- `replay FILE`, where FILE is this word
 abbrev pub IsReplay : List ℕ → List (List ℕ) → Type 0
@@ -30,6 +30,10 @@ pub record IsLearn (file : List ℕ) (window : ℕ) (words : List (List ℕ)) : 
   pub spelled : words ≡ codes "learn" ∷ file ∷ decimal window ∷ []
   pub within : window ≤ 3600000
 
+-- `audit FILE`
+abbrev pub IsAudit : List ℕ → List (List ℕ) → Type 0
+IsAudit file words = words ≡ codes "audit" ∷ file ∷ []
+
 -- one of the forms
 abbrev pub IsForm : List (List ℕ) → Type 0
 IsForm words =
@@ -38,13 +42,15 @@ IsForm words =
     ⊎ (((file : List ℕ) × IsCheck file words)
     ⊎ (((seed : ℕ) × (frames : ℕ) × IsGen seed frames words)
     ⊎ (((file : List ℕ) × IsSplitWords file words)
-    ⊎ ((file : List ℕ) × (window : ℕ) × IsLearn file window words)))))
+    ⊎ (((file : List ℕ) × (window : ℕ) × IsLearn file window words)
+    ⊎ ((file : List ℕ) × IsAudit file words))))))
 
 -- the words ask for this
 abbrev pub Asks : List (List ℕ) → Asked → Type 0
 Asks words (Replay file) = IsReplay file.now words
 Asks words (Serve file) = IsServe file.now words
 Asks words (Check file) = IsCheck file.now words
+Asks words (Audit file) = IsAudit file.now words
 Asks words (Generate seed frames) = IsGen seed frames words
 Asks words (Split file) = IsSplitWords file.now words
 Asks words (Learn file window) = IsLearn file.now window words

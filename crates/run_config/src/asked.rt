@@ -12,6 +12,8 @@ const REPLAY: &str = "replay";
 const SERVE: &str = "serve";
 // The word that asks for the check of a journal.
 const CHECK: &str = "check";
+// The word that asks for the audit of a journal.
+const AUDIT: &str = "audit";
 // The word that asks for a load.
 const GENERATE: &str = "gen";
 // The word that asks for the split of a capture.
@@ -34,6 +36,8 @@ pub enum Asked<'a> {
     Serve(&'a str),
     /// The check of a journal, by the name of its file: `check FILE`.
     Check(&'a str),
+    /// The audit of a journal, by the name of its file: `audit FILE`.
+    Audit(&'a str),
     /// The replay of a load, by its seed and the number of its packets: `gen SEED FRAMES`.
     Generate { seed: u32, frames: u32 },
     /// The split of a capture, by the name of its file: `split FILE`.
@@ -57,6 +61,9 @@ pub fn asked_by(words: &[String]) -> Asked<'_>
     }
     if let Some(file) = file_behind(CHECK, words) {
         return Asked::Check(file);
+    }
+    if let Some(file) = file_behind(AUDIT, words) {
+        return Asked::Audit(file);
     }
     if let Some(file) = file_behind(SPLIT, words) {
         return Asked::Split(file);

@@ -64,7 +64,7 @@ runt_of octets (Other eth) is short = absurd (omega (arith, is.0.long, inner_sho
 runt_of octets (BadIp eth) is short = absurd (omega (arith, is.0.long, inner_short octets, short))
 runt_of octets (Ip6 eth ip read) is short = absurd (omega (arith, is.0.long, inner_short octets, short))
 
-runt_stopped : (role : Role) (drop_unknown : Bool) → is_none (guard_of role drop_unknown Runt) ≡ false
+pub runt_stopped : (role : Role) (drop_unknown : Bool) → is_none (guard_of role drop_unknown Runt) ≡ false
 unfolding guard_of
 runt_stopped roles.Host drop_unknown = refl
 runt_stopped roles.Server drop_unknown = refl

@@ -1,4 +1,5 @@
--- The lines of standard output that say what the text of a journal is, each with its line feed.
+-- The lines of standard output that say what the text of a journal is, and what its audit has counted, each with its line
+-- feed.
 use Rattle.std.specs.Prelude.{ℕ, List, ◌++◌, codes, decimal}
 use Rattle.switch_report.specs.RunLines.{line}
 
@@ -13,3 +14,9 @@ wrong_line entry want have = line (codes "wrong at entry " ++ (decimal entry ++ 
 -- the line of this number may not stand where it does
 abbrev pub bad_line : ℕ → List ℕ
 bad_line n = line (codes "bad line " ++ decimal n)
+
+-- the journal of a finished history with so many entries was audited: so many frames of IPv4 and ARP passed, and so many
+-- frames are reported
+abbrev pub audited_line : ℕ → ℕ → ℕ → List ℕ
+audited_line entries frames violations =
+    line (codes "audited " ++ (decimal entries ++ (codes " frames " ++ (decimal frames ++ (codes " violations " ++ decimal violations)))))

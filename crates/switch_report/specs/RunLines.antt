@@ -10,7 +10,7 @@ abbrev pub memory_line : List ℕ
 memory_line = line (codes "out of memory")
 
 abbrev pub usage_line : List ℕ
-usage_line = line (codes "usage: savi_switch replay FILE, serve FILE, check FILE, gen SEED FRAMES, split FILE, learn FILE MS")
+usage_line = line (codes "usage: savi_switch replay FILE, serve FILE, check FILE, gen SEED FRAMES, split FILE, learn FILE MS, audit FILE")
 
 -- why a configuration gives no plan
 abbrev pub config_line : ConfFault → List ℕ

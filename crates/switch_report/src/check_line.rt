@@ -1,8 +1,8 @@
-//! The lines of standard output that say what the text of a journal is.
+//! The lines of standard output that say what the text of a journal is, and what its audit has counted.
 
 ghost use Rattle.std.specs.Prelude.{◌≡◌, ◌≤◌, ◌+◌, ◌++◌, [], length, decimal};
 ghost use Rattle.arrayvec.specs.ArrayVec.{array_vec_len};
-ghost use Rattle.switch_report.specs.CheckLines.{bad_line, good_line, wrong_line};
+ghost use Rattle.switch_report.specs.CheckLines.{audited_line, bad_line, good_line, wrong_line};
 
 use arrayvec::ArrayVec;
 use itoa::Buffer;
@@ -54,12 +54,37 @@ pub fn put_bad_line(n: u64) -> CheckLine
     line
 }
 
+/// The line of the audit of the journal of a history with so many entries: how many frames of IPv4 and ARP passed, and how
+/// many frames are reported.
+pub fn put_audited(entries: u64, frames: u64, violations: u64) -> CheckLine
+    ensures { result.items ≡ audited_line entries frames violations }
+{
+    let mut line = ArrayVec::new();
+    put_counted(&mut line, "audited ", entries);
+    put_further(&mut line, " frames ", frames);
+    put_further(&mut line, " violations ", violations);
+    line.push(b'\n');
+    line
+}
+
 // Begins a line with words and a number.
 fn put_counted(line: &mut CheckLine, words: &str, count: u64)
     requires empty { line.old.items ≡ [] }
     requires short { length words.now ≤ 15 }
     ensures text { line.new.items ≡ words.now ++ decimal count }
     ensures size { array_vec_len line.new ≤ length words.now + 20 }
+{
+    let mut digits = Buffer::new();
+    put_octets(line, words.as_bytes());
+    put_octets(line, digits.format(count).as_bytes());
+}
+
+// Goes on with words and a number.
+fn put_further(line: &mut CheckLine, words: &str, count: u64)
+    requires room { array_vec_len line.old ≤ 100 }
+    requires short { length words.now ≤ 15 }
+    ensures text { line.new.items ≡ line.old.items ++ words.now ++ decimal count }
+    ensures size { array_vec_len line.new ≤ array_vec_len line.old + length words.now + 20 }
 {
     let mut digits = Buffer::new();
     put_octets(line, words.as_bytes());

@@ -1,4 +1,5 @@
-//! What a run says: the summary of its history, what a journal was found to be, and its lines on standard error.
+//! What a run says: the summary of its history, what a journal was found to be and what its audit has counted, and its lines
+//! on standard error.
 //!
 //! A text is written to a sink (`savi_ends`) whole, or a front of it where a write fails. The texts are those of
 //! `savi_history`; the lines that a run says itself stand in `specs/RunLines.antt`.
@@ -13,7 +14,7 @@ mod summary_text;
 mod told_ends;
 
 pub use check_line::{
-    CHECK_LINE_OCTETS, CheckLine, FIELD_TEXT_OCTETS, put_bad_line, put_good, put_wrong,
+    CHECK_LINE_OCTETS, CheckLine, FIELD_TEXT_OCTETS, put_audited, put_bad_line, put_good, put_wrong,
 };
 pub use end_lines::tell_end;
 pub use run_lines::{

@@ -21,7 +21,7 @@ const LINE_OCTETS: usize = 256;
 const MALFORMED_OCTETS: usize = 36;
 
 const USAGE: &str =
-    "usage: savi_switch replay FILE, serve FILE, check FILE, gen SEED FRAMES, split FILE, learn FILE MS\n";
+    "usage: savi_switch replay FILE, serve FILE, check FILE, gen SEED FRAMES, split FILE, learn FILE MS, audit FILE\n";
 
 /// The name that stands for a port in a line, as `port 7`.
 pub fn port_name(port: Port) -> ArrayString<8>

@@ -6,6 +6,7 @@ use Rattle.savi_ends.specs.Faults.{RoseOnce}
 use Rattle.savi_ends.specs.Places.{Book}
 use Rattle.run_config.specs.Words.{IsCheck, IsForm, IsGen, IsReplay, IsServe, IsSplitWords}
 use Rattle.switch_report.specs.RunLines.{memory_line, usage_line}
+use Rattle.switch_run.specs.Audits.{StaysUnwritten}
 use Rattle.switch_run.specs.Causes.{HasSomeReadFault, HasSomeWriteFault, IsElsewhereSame, IsOneOf, IsUntouched, IsUnused, quiet_statuses, session_statuses, statuses, unused_statuses}
 use Rattle.switch_run.specs.Checks.{IsCheckRun}
 use Rattle.switch_run.specs.Loads.{IsLoadRun}
@@ -20,7 +21,7 @@ use Rattle.switch_run.proofs.Loading.{load_is, load_memory, load_out, not_two, n
 use Rattle.switch_run.proofs.Splitting.{capture_is, capture_memory, capture_not_two, capture_opening, capture_out, capture_still, ran_capture}
 use Rattle.switch_run.proofs.Running.{Ran, ran_told, ran_open, ran_quiet, ran_run, ran_served, ran_session, ran_ticker, ran_unfailed, ran_untouched}
 
--- what the contract of a run says
+-- what the contract of a run says of words that ask neither to learn nor for an audit
 pub record Clauses {S K C : Type 0} (left : S → Option (List ℕ)) (written : K → Option (List ℕ)) (source_faults : S → ℕ) (sink_faults : K → ℕ) (readings : C → Option (List ℕ)) (words : List (List ℕ)) (old new : Book S K C) (status : ℕ) : Type 0 where
   pub one_of : IsOneOf statuses status
   pub usage : (status ≡ 2) ↔ (IsForm words → ⊥)
@@ -35,7 +36,7 @@ pub record Clauses {S K C : Type 0} (left : S → Option (List ℕ)) (written : 
       → IsFileUnread left source_faults file (WasTold sink_faults written old new) old new status ⊎ IsSession left written source_faults sink_faults file (WasTold sink_faults written old new) old new status
   pub read : (file : List ℕ) → IsReplay file words → status ≡ 5 → HasSomeReadFault source_faults file new
   pub write : (file : List ℕ) → IsReplay file words → status ≡ 6 → HasSomeWriteFault sink_faults new
-  pub quiet : IsOneOf quiet_statuses status → new.std Out ≡ old.std Out
+  pub quiet : IsOneOf quiet_statuses status → StaysUnwritten words status (old.std Out) (new.std Out)
   pub unused : (file : List ℕ) → IsReplay file words → IsOneOf unused_statuses status → IsUnused true left file old new
   pub elsewhere : (file : List ℕ) → IsReplay file words → IsElsewhereSame file old new
   pub serve : (file : List ℕ) → IsServe file words → IsServeRun left written source_faults sink_faults readings file (WasTold sink_faults written old new) old new status
@@ -45,7 +46,7 @@ pub record Clauses {S K C : Type 0} (left : S → Option (List ℕ)) (written : 
   pub load : (seed frames : ℕ) → IsGen seed frames words → IsLoadRun written sink_faults seed frames (WasTold sink_faults written old new) old new status
   pub split : (file : List ℕ) → IsSplitWords file words → IsCaptureRun left written source_faults sink_faults file (WasTold sink_faults written old new) old new status
 
--- what a run has done whose words don't ask to learn
+-- what a run has done whose words ask neither to learn nor for an audit
 abbrev pub IsOtherRun : {S K C : Type 0} → (S → Option (List ℕ)) → (K → Option (List ℕ)) → (S → ℕ) → (K → ℕ) → (C → Option (List ℕ)) → List (List ℕ) → (List ℕ → Type 0) → Book S K C → Book S K C → ℕ → Type 0
 IsOtherRun left written source_faults sink_faults readings words Says old new status =
     ((status ≡ 2) × (IsForm words → ⊥) × Says usage_line × (new ≡ old))
@@ -72,7 +73,7 @@ clauses_of {S} {K} {C} left written source_faults sink_faults readings words b0 
       session = λ file form. absurd (none (inl (file, form)));
       read = λ file form. absurd (none (inl (file, form)));
       write = λ file form. absurd (none (inl (file, form)));
-      quiet = λ one_of. untouched.out;
+      quiet = λ one_of. inl untouched.out;
       unused = λ file form. absurd (none (inl (file, form)));
       elsewhere = λ file form. absurd (none (inl (file, form)));
       serve = λ file form. absurd (none (inr (inl (file, form))));
@@ -100,7 +101,7 @@ clauses_of {S} {K} {C} left written source_faults sink_faults readings words b0 
       session = λ f is one_of. rw (same_file words f file is form) (did.session one_of);
       read = λ f is five. rw (same_file words f file is form) (read_fault_of left written source_faults sink_faults _ b0 b3 file status five (did.session (subst (λ (n : ℕ). IsOneOf session_statuses n) (sym five) refl)));
       write = λ f is six. write_fault_of left written source_faults sink_faults _ b0 b3 file status six (did.session (subst (λ (n : ℕ). IsOneOf session_statuses n) (sym six) refl));
-      quiet = did.quiet;
+      quiet = λ one_of. inl (did.quiet one_of);
       unused = λ f is one_of. rw (same_file words f file is form) (did.unused one_of);
       elsewhere = λ f is. rw (same_file words f file is form) (record { ticker = ran_ticker b0 b1 b2 b3 e e' ran r.ticker; inputs = did.inputs });
       serve = λ f is. absurd (serves f is);
@@ -128,7 +129,7 @@ clauses_of {S} {K} {C} left written source_faults sink_faults readings words b0 
       session = λ f is. absurd (replays f is);
       read = λ f is. absurd (replays f is);
       write = λ f is. absurd (replays f is);
-      quiet = did.quiet;
+      quiet = λ one_of. inl (did.quiet one_of);
       unused = λ f is. absurd (replays f is);
       elsewhere = λ f is. absurd (replays f is);
       serve = λ f is. rw (same_served words f file is form) did;
@@ -154,7 +155,7 @@ clauses_of {S} {K} {C} left written source_faults sink_faults readings words b0 
       session = λ f is. absurd (replays f is);
       read = λ f is. absurd (replays f is);
       write = λ f is. absurd (replays f is);
-      quiet = λ quiet. ran_quiet b0 b1 b2 b3 e e' ran (check_out left written source_faults sink_faults file Says b1 b2 status r quiet);
+      quiet = λ quiet. inl (ran_quiet b0 b1 b2 b3 e e' ran (check_out left written source_faults sink_faults file Says b1 b2 status r quiet));
       unused = λ f is. absurd (replays f is);
       elsewhere = λ f is. absurd (replays f is);
       serve = λ f is. absurd (not_live words f file is form);
@@ -180,7 +181,7 @@ clauses_of {S} {K} {C} left written source_faults sink_faults readings words b0 
       session = λ file is. absurd (replays file is);
       read = λ file is. absurd (replays file is);
       write = λ file is. absurd (replays file is);
-      quiet = λ quiet. ran_quiet b0 b1 b2 b3 e e' ran (load_out written sink_faults seed frames Says b1 b2 status r quiet);
+      quiet = λ quiet. inl (ran_quiet b0 b1 b2 b3 e e' ran (load_out written sink_faults seed frames Says b1 b2 status r quiet));
       unused = λ file is. absurd (replays file is);
       elsewhere = λ file is. absurd (replays file is);
       serve = λ file is. absurd (not_loaded words file seed frames is form);
@@ -208,7 +209,7 @@ clauses_of {S} {K} {C} left written source_faults sink_faults readings words b0 
       session = λ f is. absurd (replays f is);
       read = λ f is. absurd (replays f is);
       write = λ f is. absurd (replays f is);
-      quiet = λ quiet. ran_quiet b0 b1 b2 b3 e e' ran (capture_out left written source_faults sink_faults file Says b1 b2 status r quiet);
+      quiet = λ quiet. inl (ran_quiet b0 b1 b2 b3 e e' ran (capture_out left written source_faults sink_faults file Says b1 b2 status r quiet));
       unused = λ f is. absurd (replays f is);
       elsewhere = λ f is. absurd (replays f is);
       serve = λ f is. absurd (not_split_serve words f file is form);

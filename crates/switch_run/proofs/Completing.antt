@@ -31,6 +31,7 @@ use Rattle.cli_lang.specs.Arrivals as control
 use Rattle.hist_store.specs.Rows.{Row}
 use Rattle.journal_check.specs.declared.answer.Checked.{Checked}
 use Rattle.journal_check.specs.declared.answer.Checked.TheVariants as answers
+use Rattle.journal_check.specs.Answers.{IfRead}
 use Rattle.journal_check.specs.Laws.{IsFinishedJournal}
 use Rattle.savi_history.specs.ControlFits.{FitsControl}
 use Rattle.savi_history.specs.ControlInputs.{control_end, entered_lines}
@@ -45,6 +46,7 @@ use Rattle.run_config.specs.Words.{IsReplay, IsServe, IsLearn}
 use Rattle.learn_run.specs.declared.learning.Ending.{Ending}
 use Rattle.switch_ports.specs.Named.{control_key}
 use Rattle.switch_run.specs.Causes.{IsOneOf, ports_in, session_statuses, statuses}
+use Rattle.switch_run.specs.Audits.{IsAuditRun, IsAuditedFile, audit_status}
 use Rattle.switch_run.specs.Checks.{IsAnswered, IsCheckRun, IsTextRead, check_status}
 use Rattle.switch_run.specs.Learnings.{IsLearning}
 use Rattle.switch_run.specs.Live.{IsServeSession, ServesControlAt}
@@ -52,6 +54,7 @@ use Rattle.switch_run.specs.Splits.{IsCaptureRun, IsTold}
 use Rattle.switch_run.specs.Loads.{IsLoadRun}
 use Rattle.switch_run.specs.Session.{IsFileUnread, IsNoPlan, IsSession, ServesControlPlace, WasTold}
 use Rattle.switch_run.specs.Unhindered.{ArePortsWhole, AreWhole, AreWholeLines, IsComplete, IsFaultless, IsUnhindered, IsWholeInput, Tells}
+use Rattle.switch_run.proofs.AuditClauses.{RunClauses}
 use Rattle.switch_run.proofs.Clauses.{Clauses}
 use Rattle.switch_run.proofs.LearnClauses.{AllClauses}
 use Rattle.switch_run.proofs.LearnFaults.{ends_among}
@@ -267,6 +270,18 @@ module _ {S : Type 0} (left : S → Option (List ℕ)) (answer : Checked) (statu
   exact_at None good journal = tt
   exact_at (Some told) good journal = exact_octets (left told) good journal
 
+-- the audit of a file
+
+audited_by : {S : Type 0} (left : S → Option (List ℕ)) (stands : Option S) (status : ℕ) (answer : Checked) (done : Bool) → status ≡ audit_status done answer → (done ≡ false → ⊥) → status ≢ 1 → (answer ≡ answers.Failed → ⊥)
+    → ((entries : ℕ) → answer ≡ answers.Good entries → IfSome stands (λ told. IfSome (left told) (λ text. IsFinishedJournal text entries)))
+    → ((entries : ℕ) → IfRead answer (IfSome stands (λ told. IfSome (left told) (λ text. IsFinishedJournal text entries → answer ≡ answers.Good entries))))
+    → IfSome stands (λ told. IfSome (left told) (λ text. (status ≡ 0) ↔ ((entries : ℕ) × IsFinishedJournal text entries)))
+audited_by left stands status (answers.Good entries) done is wrote other failed good journal = exact_at left (answers.Good entries) status tt (line_by done 0 status is wrote) stands good journal
+audited_by left stands status (answers.Wrong entry want have) done is wrote other failed good journal = exact_at left (answers.Wrong entry want have) status tt (line_by done 4 status is wrote) stands good journal
+audited_by left stands status (answers.BadLine n) done is wrote other failed good journal = exact_at left (answers.BadLine n) status tt (line_by done 4 status is wrote) stands good journal
+audited_by left stands status answers.Failed done is wrote other failed good journal = absurd (failed refl)
+audited_by left stands status answers.NoMemory done is wrote other failed good journal = absurd (other is)
+
 -- the split of a file
 
 module _ {S : Type 0} (left : S → Option (List ℕ)) (P Q : List ℕ → Type 0) (each : (text : List ℕ) → P text → Q text) where
@@ -300,7 +315,10 @@ load_by sink_fault false status is failed = inr (inr (is, failed refl))
 
 -- all forms
 
-module _ {S K C : Type 0} (left : S → Option (List ℕ)) (written : K → Option (List ℕ)) (source_faults : S → ℕ) (sink_faults : K → ℕ) (readings : C → Option (List ℕ)) (words : List (List ℕ)) (old new : Book S K C) (status : ℕ) (fresh : old.faults ≡ 0) (all : AllClauses left written source_faults sink_faults readings words old new status) where
+module _ {S K C : Type 0} (left : S → Option (List ℕ)) (written : K → Option (List ℕ)) (source_faults : S → ℕ) (sink_faults : K → ℕ) (readings : C → Option (List ℕ)) (words : List (List ℕ)) (old new : Book S K C) (status : ℕ) (fresh : old.faults ≡ 0) (every : RunClauses left written source_faults sink_faults readings words old new status) where
+  abbrev all : AllClauses left written source_faults sink_faults readings words old new status
+  all = every.others
+
   abbrev c : Clauses left written source_faults sink_faults readings words old new status
   c = all.others
 
@@ -352,7 +370,7 @@ module _ {S K C : Type 0} (left : S → Option (List ℕ)) (written : K → Opti
       let session : (n : ℕ) → n ≢ 5 → IsOneOf session_statuses n → status ≡ n → IsLearning left written source_faults sink_faults file window Says old new status = λ n other one_of is.
       session_by (IsLearning left written source_faults sink_faults file window Says old new status) file n other is (run.session (in_session n is one_of)) in
       goes status c.one_of
-      (λ two. c.usage.0 two (inr (inr (inr (inr (inr (file, window, form)))))))
+      (λ two. c.usage.0 two (inr (inr (inr (inr (inr (inl (file, window, form))))))))
       (λ three. never_refused true left source_faults sink_faults (ArePortsWhole left old) file old new u Says (run.config three))
       (λ four.
       let l = session 4 (λ e. omega (arith, e)) refl four in
@@ -374,6 +392,20 @@ module _ {S K C : Type 0} (left : S → Option (List ℕ)) (written : K → Opti
     | inr (kept, inl unjudged) ↦ absurd (other unjudged.status_is)
     | inr (kept, inr (inl unread)) ↦ absurd (faultless.read (inl unread.fault))
     | inr (kept, inr (inr answered)) ↦ answered_exact file faultless answered
+  ]
+
+  audited_exact : (file : List ℕ) → IsFaultless source_faults sink_faults file old new → status ≢ 1 → IsAuditedFile left written source_faults sink_faults file Says old new status
+      → OfText left (old.inputs file) (λ text. (status ≡ 0) ↔ ((entries : ℕ) × IsFinishedJournal text entries))
+  audited_exact file faultless other a =
+      audited_by left (old.inputs file).stands status a.answer a.text_written a.cause
+      (λ lost. faultless.written (inr (inr (inr (unwritten_fault sink_faults written a.text_written _ (old.std Out) (new.std Out) lost a.out)))))
+      other (λ failed. faultless.read (inl (a.fault failed))) a.good a.journal
+
+  audit_exact : (file : List ℕ) → IsFaultless source_faults sink_faults file old new → status ≢ 1 → IsAuditRun left written source_faults sink_faults file Says old new status
+      → OfText left (old.inputs file) (λ text. (status ≡ 0) ↔ ((entries : ℕ) × IsFinishedJournal text entries))
+  audit_exact file faultless other run = elim run.did [
+    | inl unopened ↦ absurd (not_risen old.faults new.faults fresh faultless.opened unopened.fault)
+    | inr (kept, audited) ↦ audited_exact file faultless other audited
   ]
 
   split_by : (file : List ℕ) → IsFaultless source_faults sink_faults file old new → (o : Outcome) → CameTo left written source_faults sink_faults file old new o → IsTold written sink_faults Says file o (old.std Out) (new.std Out) status → OfText left (old.inputs file) (IsSplitText status)
@@ -404,6 +436,7 @@ module _ {S K C : Type 0} (left : S → Option (List ℕ)) (written : K → Opti
     serve = serve_goes;
     learn = learn_goes;
     check = λ file form faultless other. check_exact file faultless other (c.check file form);
+    audit = λ file form faultless other. audit_exact file faultless other (every.audit file form);
     split = λ file form faultless other. split_exact file faultless other (c.split file form);
     load = λ seed frames form. load_goes seed frames (c.load seed frames form);
   }

@@ -1,5 +1,5 @@
 -- What the counters of a switch sum up, and what is told of a session that was summed up.
-use Rattle.std.proofs.Common.{◌≡◌, ℕ, ◌+◌, ◌-◌, ◌^◌, ◌<◌, ◌≤◌, ◌&&◌, min, Bool, List, [], ◌∷◌, ◌++◌, get_or, map, take, sym, ap, ◌∙◌, subst, arith, Option, Some, IfSome}
+use Rattle.std.proofs.Common.{◌≡◌, ℕ, ◌+◌, ◌-◌, ◌^◌, ◌<◌, ◌≤◌, ◌&&◌, min, Bool, List, [], ◌∷◌, ◌++◌, get_or, map, take, sym, ap, ◌∙◌, subst, Option, Some, IfSome}
 use Rattle.std.specs.List.{sum_by}
 use Rattle.std.proofs.lemmas.List.{get_or-map, get_or_append_left, take_all}
 use Rattle.std.proofs.lemmas.List.Sums.{sum_by_more}
@@ -17,6 +17,7 @@ use Rattle.savi_segments.specs.Counted.{all_dropped, summary_by}
 use Rattle.savi_segments.specs.Segments.{joined}
 use Rattle.savi_segments.specs.Unbroken.{unbroken}
 use Rattle.savi_core.specs.Machines.{base_of}
+use Rattle.audit_run.proofs.Watching.{capped_behind}
 use Rattle.switch_report.specs.declared.summary.Summary.{Summary as Counted}
 use Rattle.switch_report.specs.Sums.{sum_of}
 use Rattle.switch_run.specs.declared.outcome.Outcome.{Outcome}
@@ -24,10 +25,6 @@ use Rattle.switch_run.specs.Causes.{Keeps, TookOrPart}
 use Rattle.switch_run.specs.Played.{IsOutcomeOf}
 use Rattle.switch_run.specs.Session.{IsSummed, journal_lines, told_status}
 use Rattle.switch_run.proofs.ToldEnds.{ends_as_told, status_as_told}
-
--- a sum that stops at a number goes on as one that stops there in the end
-capped_more : (most a b : ℕ) → min (min a most + b) most ≡ min (a + b) most
-capped_more most a b = omega arith
 
 -- what the rules dropped, one rule after another
 rule_at : (counts : Counts) (i : ℕ) → i < 23 → counter_at i counts ≡ dropped_count counts (get_or all_rules i PortDown)
@@ -41,7 +38,7 @@ dropped_more counts i so_far here now inside before is added =
     added
     ∙ ap (λ (n : ℕ). min (n + here) (2 ^ 64 - 1)) before
     ∙ ap (λ (n : ℕ). min (capped (sum_by (dropped_count counts) (take i all_rules)) + n) (2 ^ 64 - 1)) (is ∙ rule_at counts i inside)
-    ∙ capped_more (2 ^ 64 - 1) (sum_by (dropped_count counts) (take i all_rules)) (dropped_count counts (get_or all_rules i PortDown))
+    ∙ capped_behind (2 ^ 64 - 1) (sum_by (dropped_count counts) (take i all_rules)) (dropped_count counts (get_or all_rules i PortDown))
     ∙ ap capped (sym (sum_by_more (dropped_count counts) all_rules i PortDown inside))
 
 pub dropped_all : (counts : Counts) (i so_far : ℕ) → 23 ≤ i → so_far ≡ capped (sum_by (dropped_count counts) (take i all_rules)) → so_far ≡ all_dropped counts

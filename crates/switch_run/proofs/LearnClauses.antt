@@ -13,7 +13,6 @@ use Rattle.run_config.specs.Configs.{EndHasFault, EndHasNoFault, IsConfigured, I
 use Rattle.run_config.specs.Words.{IsCheck, IsGen, IsLearn, IsReplay, IsServe, IsSplitWords}
 use Rattle.learn_run.specs.Learning.{IsHeard, LearnsPorts}
 use Rattle.switch_ports.specs.Named.{named_by}
-use Rattle.switch_run.specs.AnyRun.{IsAnyRun}
 use Rattle.switch_run.specs.Causes.{HasSomeReadFault, IsOneOf, Keeps, TookOrPart, session_statuses}
 use Rattle.switch_run.specs.Learnings.{IsLearnRun, IsLearning, IsLearningOf, IsLearnedPortUnopened}
 use Rattle.switch_run.specs.Session.{IsFileUnopened, IsPortUnopened, WasTold, ToldBy}
@@ -21,7 +20,7 @@ use Rattle.switch_run.proofs.Clauses.{Clauses, IsOtherRun, clauses_of}
 use Rattle.switch_run.proofs.LearnFaults.{learned_read, learned_write}
 use Rattle.switch_run.proofs.Running.{Ran, SamePlaces, inputs_first, inputs_last, moved_off, out≢err, ran_run, ran_told}
 
--- what the contract of a run says
+-- what the contract of a run says of words that don't ask for an audit
 pub record AllClauses {S K C : Type 0} (left : S → Option (List ℕ)) (written : K → Option (List ℕ)) (source_faults : S → ℕ) (sink_faults : K → ℕ) (readings : C → Option (List ℕ)) (words : List (List ℕ)) (old new : Book S K C) (status : ℕ) : Type 0 where
   pub others : Clauses left written source_faults sink_faults readings words old new status
   pub learn : (file : List ℕ) (window : ℕ) → IsLearn file window words → IsLearnRun left written source_faults sink_faults file window (WasTold sink_faults written old new) old new status
@@ -182,15 +181,21 @@ same_learning words file other window window' one two =
 -- words that ask for no learning
 none_learned : {S K C : Type 0} (left : S → Option (List ℕ)) (written : K → Option (List ℕ)) (source_faults : S → ℕ) (sink_faults : K → ℕ) (readings : C → Option (List ℕ)) (words : List (List ℕ)) (Says : List ℕ → Type 0) (old new : Book S K C) (status : ℕ)
     → IsOtherRun left written source_faults sink_faults readings words Says old new status → (file : List ℕ) (window : ℕ) → IsLearn file window words → ⊥
-none_learned left written source_faults sink_faults readings words Says old new status (inl (two, none, told, same)) file window is = none (inr (inr (inr (inr (inr (file, window, is))))))
+none_learned left written source_faults sink_faults readings words Says old new status (inl (two, none, told, same)) file window is = none (inr (inr (inr (inr (inr (inl (file, window, is)))))))
 none_learned left written source_faults sink_faults readings words Says old new status (inr (inl (other, form, r))) file window is = not_replayed words file window other is form
 none_learned left written source_faults sink_faults readings words Says old new status (inr (inr (inl (other, form, r)))) file window is = not_served words file window other is form
 none_learned left written source_faults sink_faults readings words Says old new status (inr (inr (inr (inl (other, form, r))))) file window is = not_checked words file window other is form
 none_learned left written source_faults sink_faults readings words Says old new status (inr (inr (inr (inr (inl (seed, frames, form, r)))))) file window is = not_loaded words file window seed frames is form
 none_learned left written source_faults sink_faults readings words Says old new status (inr (inr (inr (inr (inr (other, form, r)))))) file window is = not_split words file window other is form
 
+-- what a run has done whose words don't ask for an audit
+abbrev pub IsUnauditedRun : {S K C : Type 0} → (S → Option (List ℕ)) → (K → Option (List ℕ)) → (S → ℕ) → (K → ℕ) → (C → Option (List ℕ)) → List (List ℕ) → (List ℕ → Type 0) → Book S K C → Book S K C → ℕ → Type 0
+IsUnauditedRun left written source_faults sink_faults readings words Says old new status =
+    ((file : List ℕ) × (window : ℕ) × IsLearn file window words × IsLearnRun left written source_faults sink_faults file window Says old new status)
+    ⊎ IsOtherRun left written source_faults sink_faults readings words Says old new status
+
 pub all_clauses : {S K C : Type 0} (left : S → Option (List ℕ)) (written : K → Option (List ℕ)) (source_faults : S → ℕ) (sink_faults : K → ℕ) (readings : C → Option (List ℕ)) (words : List (List ℕ)) (b0 b1 b2 b3 : Book S K C) (e e' : K) (status : ℕ) → Ran b0 b1 b2 b3 e e'
-    → IsAnyRun left written source_faults sink_faults readings words (ToldBy sink_faults written e e') b1 b2 status → AllClauses left written source_faults sink_faults readings words b0 b3 status
+    → IsUnauditedRun left written source_faults sink_faults readings words (ToldBy sink_faults written e e') b1 b2 status → AllClauses left written source_faults sink_faults readings words b0 b3 status
 all_clauses left written source_faults sink_faults readings words b0 b1 b2 b3 e e' status ran (inr r) = record {
   others = clauses_of left written source_faults sink_faults readings words b0 b1 b2 b3 e e' status ran r;
   learn = λ file window is. absurd (none_learned left written source_faults sink_faults readings words (ToldBy sink_faults written e e') b1 b2 status r file window is);
@@ -203,7 +208,7 @@ all_clauses {S} {K} {C} left written source_faults sink_faults readings words b0
     record {
       others = record {
         one_of = did.one_of;
-        usage = (λ two. absurd (did.usage two), λ none. absurd (none (inr (inr (inr (inr (inr (file, window, form))))))));
+        usage = (λ two. absurd (did.usage two), λ none. absurd (none (inr (inr (inr (inr (inr (inl (file, window, form)))))))));
         untouched = λ two. absurd (did.usage two);
         memory = did.memory;
         unplayed = λ f is. absurd (not_replayed words file window f form is);
@@ -214,7 +219,7 @@ all_clauses {S} {K} {C} left written source_faults sink_faults readings words b0
         session = λ f is. absurd (not_replayed words file window f form is);
         read = λ f is. absurd (not_replayed words file window f form is);
         write = λ f is. absurd (not_replayed words file window f form is);
-        quiet = did.quiet;
+        quiet = λ one_of. inl (did.quiet one_of);
         unused = λ f is. absurd (not_replayed words file window f form is);
         elsewhere = λ f is. absurd (not_replayed words file window f form is);
         serve = λ f is. absurd (not_served words file window f form is);

@@ -20,6 +20,8 @@ pub mod Clauses
 pub mod LearnFaults
 pub mod LearnClauses
 pub mod LearnRuns
+pub mod Auditing
+pub mod AuditClauses
 pub mod LegalFaults
 pub mod WholeInputs
 pub mod Completing

@@ -5,6 +5,7 @@ pub mod Live
 pub mod Concluded
 pub mod Loads
 pub mod Checks
+pub mod Audits
 pub mod Splits
 pub mod Runs
 pub mod Learnings

@@ -16,7 +16,7 @@ use Rattle.cli_lang.specs.Arrivals.{Line, IsRun}
 use Rattle.savi_history.specs.ControlInputs.{is_quit}
 use Rattle.journal_check.specs.Laws.{IsFinishedJournal}
 use Rattle.run_config.specs.Configs.{EndHasFault, OfText}
-use Rattle.run_config.specs.Words.{IsCheck, IsGen, IsLearn, IsReplay, IsServe, IsSplitWords}
+use Rattle.run_config.specs.Words.{IsAudit, IsCheck, IsGen, IsLearn, IsReplay, IsServe, IsSplitWords}
 use Rattle.switch_ports.specs.Named.{control_key}
 use Rattle.switch_run.specs.Causes.{HasSomeReadFault, HasSomeWriteFault, ports_in}
 
@@ -60,8 +60,9 @@ pub record IsUnhindered {S K C : Type 0} (replay : Bool) (left : S → Option (L
 
 -- What a run answers by its words. A replay or a live session that nothing hinders answers 0, or 1 before its session,
 -- however long it is, and so does learning, which reads the ports alone. Where no count of faults rose and the answer isn't
--- 1, the check of a file answers 0 exactly where its text is the journal of a finished history, and its split exactly where
--- it is a capture of several interfaces up to its end. A load answers 0 or 1, or 6 where a write of standard output failed.
+-- 1, the check of a file and its audit answer 0 exactly where its text is the journal of a finished history, and its split
+-- exactly where it is a capture of several interfaces up to its end. A load answers 0 or 1, or 6 where a write of standard
+-- output failed.
 pub record IsComplete {S K C : Type 0} (left : S → Option (List ℕ)) (source_faults : S → ℕ) (sink_faults : K → ℕ) (words : List (List ℕ)) (old new : Book S K C) (status : ℕ) : Type 0 where
   pub replay : (file : List ℕ) → IsReplay file words → IsUnhindered true left source_faults sink_faults (AreWhole false left old) file old new
       → (status ≡ 0) ⊎ (status ≡ 1)
@@ -69,6 +70,8 @@ pub record IsComplete {S K C : Type 0} (left : S → Option (List ℕ)) (source_
       → (status ≡ 0) ⊎ (status ≡ 1)
   pub learn : (file : List ℕ) (window : ℕ) → IsLearn file window words → IsUnhindered true left source_faults sink_faults (ArePortsWhole left old) file old new → (status ≡ 0) ⊎ (status ≡ 1)
   pub check : (file : List ℕ) → IsCheck file words → IsFaultless source_faults sink_faults file old new → status ≢ 1
+      → OfText left (old.inputs file) (λ text. (status ≡ 0) ↔ ((entries : ℕ) × IsFinishedJournal text entries))
+  pub audit : (file : List ℕ) → IsAudit file words → IsFaultless source_faults sink_faults file old new → status ≢ 1
       → OfText left (old.inputs file) (λ text. (status ≡ 0) ↔ ((entries : ℕ) × IsFinishedJournal text entries))
   pub split : (file : List ℕ) → IsSplitWords file words → IsFaultless source_faults sink_faults file old new → status ≢ 1
       → OfText left (old.inputs file) (λ text. (status ≡ 0) ↔ ((events : List Event) × Arrive text (record { events = events; ending = hows.End })))

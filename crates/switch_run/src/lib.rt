@@ -9,11 +9,13 @@
 //! (`specs/Live.antt`). Where a load is asked for, its segments, a plain definition of the seed and the number of packets,
 //! are summed up, and nothing is opened (`specs/Loads.antt`). Where a journal is to be checked, the line on standard output
 //! is the one answer to its text, `good` exactly where the text is the journal of a finished history (`specs/Checks.antt`).
+//! Where it is to be audited, what is printed is a plain function of its history (`specs/Audits.antt`).
 //! Where a capture of several interfaces is to be split, each output holds the classic capture of its interface, or a front
 //! of it where the work stopped (`specs/Splits.antt`). Where captures are to be learned from, what is printed is a plain
 //! function of the plan, the window and whole inputs (`specs/Learnings.antt`).
 #![tactic(auto)]
 
+mod audits;
 mod checks;
 mod ends_told;
 mod learning;

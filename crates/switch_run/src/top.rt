@@ -7,8 +7,9 @@ ghost use Rattle.savi_ends.specs.Faults.{RoseOnce};
 ghost use Rattle.savi_ends.specs.Places.{BothFresh, HandedNothing, IsReady, OthersStay};
 ghost use Rattle.run_config.specs.Configs.{EndHasFault, IsBuilt};
 ghost use Rattle.switch_report.specs.RunLines.{memory_line, usage_line};
-ghost use Rattle.run_config.specs.Words.{IsCheck, IsForm, IsGen, IsLearn, IsReplay, IsServe, IsSplitWords};
+ghost use Rattle.run_config.specs.Words.{IsAudit, IsCheck, IsForm, IsGen, IsLearn, IsReplay, IsServe, IsSplitWords};
 ghost use Rattle.switch_run.specs.Causes.{HasSomeReadFault, HasSomeWriteFault, IsElsewhereSame, IsOffPlanSame, IsOneOf, IsUnserved, IsUnused, IsUnusedOf, IsUntouched, KeepsAll, quiet_statuses, session_statuses, statuses, unused_statuses};
+ghost use Rattle.switch_run.specs.Audits.{IsAuditRun, StaysUnwritten};
 ghost use Rattle.switch_run.specs.Checks.{IsCheckRun};
 ghost use Rattle.switch_run.specs.Loads.{IsLoadRun};
 ghost use Rattle.switch_run.specs.AnyRun.{IsAnyRun};
@@ -18,6 +19,7 @@ ghost use Rattle.switch_run.specs.Splits.{IsCaptureRun};
 ghost use Rattle.switch_run.specs.Unhindered.{IsComplete};
 ghost use Rattle.switch_run.specs.Session.{IsNoPlan, IsPartUnopened, IsSession, IsSessionOf, IsUnopened, IsUnplayed, IsFileUnread, WasTold, ToldBy};
 
+use crate::audits::audit_file;
 use crate::checks::check_file;
 use crate::ends_told::refuse;
 use crate::learning::learn_file;
@@ -58,7 +60,8 @@ pub const OPEN_FAULT: u8 = 7;
 /// control, where the plan names it; no capture is too long. Statuses 0, 4 and 6 say that the session began, and 5 too,
 /// unless a read of the configuration failed; the other statuses have their causes. `check FILE` writes
 /// what the text of FILE is, as a journal: the status is 0 where it is the journal of a finished history, 4 where it isn't,
-/// and 1, 5, 6 or 7 by its cause. `gen SEED FRAMES` replays a load in memory, and sums it up: the status is 0, 1 or 6.
+/// and 1, 5, 6 or 7 by its cause. `audit FILE` writes which frames of a journal are reported, and how many; its statuses are
+/// those of `check`. `gen SEED FRAMES` replays a load in memory, and sums it up: the status is 0, 1 or 6.
 /// `split FILE` splits a capture of several interfaces into one for each: the status is 0, or 4 where FILE is malformed, and
 /// 1, 5, 6 or 7 by its cause. `learn FILE MS` reads the captures as a replay does, and writes what they say of routers, with
 /// a window of MS: its statuses are those of `replay`.
@@ -92,13 +95,14 @@ where
     ensures session { (file : List ℕ) → IsReplay file (map string_bytes words.now) → IsOneOf session_statuses result → IsFileUnread W.S.left W.S.faults file (WasTold W.K.faults W.K.written (W.book world.old) (W.book world.new)) (W.book world.old) (W.book world.new) result ⊎ IsSession W.S.left W.K.written W.S.faults W.K.faults file (WasTold W.K.faults W.K.written (W.book world.old) (W.book world.new)) (W.book world.old) (W.book world.new) result }
     ensures read { (file : List ℕ) → IsReplay file (map string_bytes words.now) → result ≡ 5 → HasSomeReadFault W.S.faults file (W.book world.new) }
     ensures write { (file : List ℕ) → IsReplay file (map string_bytes words.now) → result ≡ 6 → HasSomeWriteFault W.K.faults (W.book world.new) }
-    ensures quiet { IsOneOf quiet_statuses result → (W.book world.new).std Std.Out ≡ (W.book world.old).std Std.Out }
+    ensures quiet { IsOneOf quiet_statuses result → StaysUnwritten (map string_bytes words.now) result ((W.book world.old).std Std.Out) ((W.book world.new).std Std.Out) }
     ensures unused { (file : List ℕ) → IsReplay file (map string_bytes words.now) → IsOneOf unused_statuses result → IsUnused true W.S.left file (W.book world.old) (W.book world.new) }
     ensures elsewhere { (file : List ℕ) → IsReplay file (map string_bytes words.now) → IsElsewhereSame file (W.book world.old) (W.book world.new) }
     ensures serve { (file : List ℕ) → IsServe file (map string_bytes words.now) → IsServeRun W.S.left W.K.written W.S.faults W.K.faults W.C.readings file (WasTold W.K.faults W.K.written (W.book world.old) (W.book world.new)) (W.book world.old) (W.book world.new) result }
     ensures served_read { (file : List ℕ) → IsServe file (map string_bytes words.now) → result ≡ 5 → HasSomeReadFault W.S.faults file (W.book world.new) }
     ensures served_write { (file : List ℕ) → IsServe file (map string_bytes words.now) → result ≡ 6 → HasSomeWriteFault W.K.faults (W.book world.new) }
     ensures check { (file : List ℕ) → IsCheck file (map string_bytes words.now) → IsCheckRun W.S.left W.K.written W.S.faults W.K.faults file (WasTold W.K.faults W.K.written (W.book world.old) (W.book world.new)) (W.book world.old) (W.book world.new) result }
+    ensures audit { (file : List ℕ) → IsAudit file (map string_bytes words.now) → IsAuditRun W.S.left W.K.written W.S.faults W.K.faults file (WasTold W.K.faults W.K.written (W.book world.old) (W.book world.new)) (W.book world.old) (W.book world.new) result }
     ensures learn { (file : List ℕ) (window : ℕ) → IsLearn file window (map string_bytes words.now) → IsLearnRun W.S.left W.K.written W.S.faults W.K.faults file window (WasTold W.K.faults W.K.written (W.book world.old) (W.book world.new)) (W.book world.old) (W.book world.new) result }
     ensures learned_read { (file : List ℕ) (window : ℕ) → IsLearn file window (map string_bytes words.now) → result ≡ 5 → HasSomeReadFault W.S.faults file (W.book world.new) }
     ensures learned_write { (file : List ℕ) (window : ℕ) → IsLearn file window (map string_bytes words.now) → result ≡ 6 → EndHasFault W.K.faults ((W.book world.new).std Std.Out) }
@@ -138,6 +142,7 @@ where
         Asked::Replay(file) => replay_file(alloc, file, world, errors),
         Asked::Serve(file) => serve_file(rt, alloc, file, world, errors, gate),
         Asked::Check(file) => check_file(alloc, file, world, errors),
+        Asked::Audit(file) => audit_file(alloc, file, world, errors),
         Asked::Generate { seed, frames } => generate(alloc, seed, frames, world, errors),
         Asked::Split(file) => split_capture(alloc, file, world, errors),
         Asked::Learn { file, window } => learn_file(alloc, file, window, world, errors),

@@ -9,7 +9,7 @@ use Rattle.journal_check.specs.SettingLines.{AreSettings, setting_lines}
 use Rattle.journal_check.specs.ListLines.{IsListed, IsNotListed, list_lines, Adds}
 use Rattle.journal_check.specs.declared.lists.Added.TheVariants as added
 use Rattle.journal_check.specs.Judging.{checked_of}
-use Rattle.journal_check.specs.Answers.{IfRead, IsBadHeader}
+use Rattle.journal_check.specs.Answers.{IfRead, IsBadHeader, IsBeforeEntries}
 use Rattle.journal_check.proofs.ListsRead.{are_empty, same_lists}
 use Rattle.journal_check.proofs.Heading.{none_told, list_more, all_taken, bad_list, none_listed, broken_next, same_number}
 use Rattle.journal_check.proofs.Given.{gave_more, gave_none, passed_more, passed_none}
@@ -93,6 +93,12 @@ returns-in-Bad-clause-bad g c =
     subst (λ (a : Checked). IfRead a ((s : Settings) → AreSettings s → IfSome (in_front (lines_text (setting_lines s)) whole) (λ octets. IsBadHeader octets a))) (sym answer)
     (bad_list old.ports.items old.prefixes.items whole mid was.are was.told
     (λ s. none_listed s old.ports.items old.prefixes.items line mid after c.in-Line.ensures.taken.0 was.are not c.in-Line.ensures.taken.1))
+
+pub returns-in-Broken-clause-fault : goal.returns-in-Broken-clause-fault
+returns-in-Broken-clause-fault g c = subst IsBeforeEntries (sym c.bad_listed.ensures) tt
+
+pub returns-in-Bad-clause-fault : goal.returns-in-Bad-clause-fault
+returns-in-Bad-clause-fault g c = subst IsBeforeEntries (sym c.bad_listed-in-Bad.ensures) tt
 
 pub returns-in-Begin-clause-gave : goal.returns-in-Begin-clause-gave
 returns-in-Begin-clause-gave g c = gave_more _ _ _ c.listed.invariant.gave c.next.ensures.gave

@@ -4,7 +4,7 @@ use Rattle.hist_store.specs.TextOfLines.{lines_text}
 use Rattle.journal_check.specs.declared.answer.Checked.{Checked}
 use Rattle.journal_check.specs.Pieces.{to_come}
 use Rattle.journal_check.specs.SettingLines.{IsRead, IsNotNext, before}
-use Rattle.journal_check.specs.Answers.{IfRead, IsBadHeader}
+use Rattle.journal_check.specs.Answers.{IfRead, IsBadHeader, IsBeforeEntries}
 use Rattle.journal_check.proofs.FeedPlaces.{in_front_none}
 use Rattle.journal_check.proofs.Heading.{read_more, bad_header, none_next, broken_next}
 use Rattle.journal_check.proofs.Given.{gave_more, gave_none, passed_more, passed_none}
@@ -66,6 +66,12 @@ returns-then-not-read-clause-bad g c =
     let not = subst (λ (t : List ℕ). IsNotNext n t s) c.as_slice.ensures.value (c.read.ensures.bad no) in
     let none = none_next n s c.next.new.line.items mid after c.in-Line.ensures.taken.0 not c.in-Line.ensures.taken.1 in
     subst (λ (a : Checked). IfRead a (IfSome whole (λ octets. IsBadHeader octets a))) (sym c.bad_setting-then-not-read.ensures) (bad_header n s whole mid was.settings (omega arith) was.told none)
+
+pub returns-in-Broken-clause-fault : goal.returns-in-Broken-clause-fault
+returns-in-Broken-clause-fault g c = subst IsBeforeEntries (sym c.bad_setting.ensures) tt
+
+pub returns-then-not-read-clause-fault : goal.returns-then-not-read-clause-fault
+returns-then-not-read-clause-fault g c = subst IsBeforeEntries (sym c.bad_setting-then-not-read.ensures) tt
 
 pub returns-in-Broken-clause-gave : goal.returns-in-Broken-clause-gave
 returns-in-Broken-clause-gave g c = gave_more _ _ _ c.loop-number.invariant.gave c.next.ensures.gave

@@ -1,4 +1,4 @@
-use Rattle.std.proofs.Common.{◌≡◌, ◌+◌, ℕ, IfSome, length, ap, ◌∙◌, subst, arith}
+use Rattle.std.proofs.Common.{◌≡◌, ◌+◌, ℕ, IfSome, length, refl, ap, ◌∙◌, subst, arith}
 use Rattle.std.proofs.lemmas.Result.{err_from_is_err_and}
 use Rattle.savi_kinds.specs.declared.plan.Plan.{Plan}
 use Rattle.savi_ends.specs.Octets.{in_front}
@@ -20,6 +20,7 @@ returns-clause-opened g c =
     let behind = to_come c.read_opening.new.lines (g.S.Source.left c.read_opening.new.source) in
     record {
       lines = omega (arith, c.len.ensures.len, count, same);
+      segments = refl;
       entries = omega (arith, c.len-2.ensures.len);
       taken = c.in_ok-count.ensures.read ∙ ap (λ (p : Plan). in_front (lines_text (opening_lines p (base_of now))) behind) plan;
     }

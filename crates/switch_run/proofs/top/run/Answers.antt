@@ -1,8 +1,9 @@
 use Rattle.std.specs.Prelude.{map}
 use Rattle.std.specs.String.{string_bytes}
+use Rattle.switch_run.proofs.AuditClauses.{RunClauses, run_clauses}
 use Rattle.switch_run.proofs.Clauses.{Clauses}
 use Rattle.switch_run.proofs.Completing.{complete_of}
-use Rattle.switch_run.proofs.LearnClauses.{AllClauses, all_clauses}
+use Rattle.switch_run.proofs.LearnClauses.{AllClauses}
 use Rattle.switch_run.proofs.Running.{Ran}
 use Rattle.switch_run.proofs.top.run.Given as given
 use Rattle.switch_run.proofs.top.run.Goals as goal
@@ -18,8 +19,11 @@ ran g c = record {
   rest3 = c.keep_std.ensures.rest;
 }
 
+ran_every : (g : given.Over) (c : goal.After-keep_std g) → RunClauses g.W.S.Source.left g.W.K.Sink.written g.W.S.Source.faults g.W.K.Sink.faults g.W.C.Clock.readings (map string_bytes c.args.words.now) (g.W.World.book c.args.world.now) (g.W.World.book c.keep_std.new.self) c.perform-status.result
+ran_every g c = run_clauses g.W.S.Source.left g.W.K.Sink.written g.W.S.Source.faults g.W.K.Sink.faults g.W.C.Clock.readings _ _ _ _ _ _ _ _ (ran g c) c.perform-status.ensures.ran
+
 ran_all : (g : given.Over) (c : goal.After-keep_std g) → AllClauses g.W.S.Source.left g.W.K.Sink.written g.W.S.Source.faults g.W.K.Sink.faults g.W.C.Clock.readings (map string_bytes c.args.words.now) (g.W.World.book c.args.world.now) (g.W.World.book c.keep_std.new.self) c.perform-status.result
-ran_all g c = all_clauses g.W.S.Source.left g.W.K.Sink.written g.W.S.Source.faults g.W.K.Sink.faults g.W.C.Clock.readings _ _ _ _ _ _ _ _ (ran g c) c.perform-status.ensures.ran
+ran_all g c = (ran_every g c).others
 
 ran_so : (g : given.Over) (c : goal.After-keep_std g) → Clauses g.W.S.Source.left g.W.K.Sink.written g.W.S.Source.faults g.W.K.Sink.faults g.W.C.Clock.readings (map string_bytes c.args.words.now) (g.W.World.book c.args.world.now) (g.W.World.book c.keep_std.new.self) c.perform-status.result
 ran_so g c = (ran_all g c).others
@@ -84,6 +88,9 @@ returns-clause-load g c = (ran_so g c).load
 pub returns-clause-check : goal.returns-clause-check
 returns-clause-check g c = (ran_so g c).check
 
+pub returns-clause-audit : goal.returns-clause-audit
+returns-clause-audit g c = (ran_every g c).audit
+
 pub returns-clause-split : goal.returns-clause-split
 returns-clause-split g c = (ran_so g c).split
 
@@ -97,4 +104,4 @@ pub returns-clause-learned_write : goal.returns-clause-learned_write
 returns-clause-learned_write g c = (ran_all g c).learned_write
 
 pub returns-clause-complete : goal.returns-clause-complete
-returns-clause-complete g c = complete_of g.W.S.Source.left g.W.K.Sink.written g.W.S.Source.faults g.W.K.Sink.faults g.W.C.Clock.readings _ _ _ _ c.requires.faults (ran_all g c)
+returns-clause-complete g c = complete_of g.W.S.Source.left g.W.K.Sink.written g.W.S.Source.faults g.W.K.Sink.faults g.W.C.Clock.readings _ _ _ _ c.requires.faults (ran_every g c)

@@ -1,0 +1,4 @@
+mod Waiting
+mod Passing
+pub mod Watching
+pub mod Leading

@@ -1,0 +1,5 @@
+pub mod PassedFrames
+pub mod Violations
+pub mod Printed
+pub mod Auditing
+pub mod Audited

@@ -1,0 +1,11 @@
+pub mod Counting
+pub mod Holding
+pub mod Slots
+pub mod Rooms
+pub mod OptionRows
+pub mod Askings
+pub mod AtPorts
+pub mod Knowing
+pub mod Judging
+pub mod Readings
+pub mod VlansApart

@@ -1,0 +1,13 @@
+pub mod Packets
+pub mod ArpPackets
+pub mod DhcpOptions
+pub mod OptionFronts
+pub mod DhcpMessages
+pub mod Tellings
+pub mod Leased
+pub mod Following
+pub mod Reasons
+pub mod KeptLeases
+pub mod Snooped
+pub mod Judged
+pub mod Laws
