@@ -14,7 +14,7 @@ from reading import audit, making_ipv4 as ipv4
 from reading.audit import ACKNOWLEDGEMENT, DECLINE, RELEASE, REQUESTED_ADDRESS
 from reading.making import octets
 
-from .namespaces import PATIENCE, LabFault, Late, call, end, own_name, remove, undisturbed, wait_until
+from .namespaces import PATIENCE, Ground, LabFault, Late, call, end, wait_until
 from .networks import make_switch_space
 from .stations import HONEST, INTERFACE, Station, received
 
@@ -120,16 +120,8 @@ class Trial:
     journal: str | None = None
 
 
-class Ground:
-    """The namespaces of a trial. However it ends they are removed, and what runs there with them."""
-
-    def __enter__(self):
-        return self
-
-    def __exit__(self, *_):
-        with undisturbed():
-            for name in NAMES:
-                remove(own_name(name))
+class LeaseGround(Ground):
+    names = NAMES
 
     def build(self, make_network, folder):
         space = make_switch_space()
@@ -268,7 +260,7 @@ def make(make_network, folder):
     os.mkdir(folder)
     kinds = clients()
     trial, is_joined = Trial([kind.name for kind, _ in kinds]), False
-    with Ground() as ground:
+    with LeaseGround() as ground:
         network = ground.build(make_network, folder)
         try:
             ground.join()

@@ -76,6 +76,20 @@ def own_name(name):
     return f"{PREFIX}{os.getpid()}-{name}"
 
 
+class Ground:
+    """The namespaces of a trial, by their `names`. However it ends they are removed, and what runs there with them."""
+
+    names = ()
+
+    def __enter__(self):
+        return self
+
+    def __exit__(self, *_):
+        with undisturbed():
+            for name in self.names:
+                remove(own_name(name))
+
+
 class Namespace:
     def __init__(self, name):
         self.name = own_name(name)

@@ -9,7 +9,7 @@ from reading.plan import address_text
 
 from . import frames
 from .attacks import AGAIN, GRACE
-from .namespaces import PATIENCE, LabFault, Late, Namespace, own_name, remove, undisturbed, wait_until
+from .namespaces import PATIENCE, Ground, LabFault, Late, Namespace, own_name, remove, undisturbed, wait_until
 from .networks import Bridge, Switch, filter_vlans, make_switch_space
 from .soft_bridge import SoftBridge
 from .stations import INTERFACE, MARKS, OWN_PREFIX, Station, reaches
@@ -73,20 +73,13 @@ class Trial:
     checked: str | None = None
 
 
-class Ground:
-    """The namespaces of a trial. However it ends they are removed, and what runs there with them. `has_filter` says whether
-    the kernel's bridges filter VLANs."""
+class TenantGround(Ground):
+    """`has_filter` says whether the kernel's bridges filter VLANs."""
+
+    names = NAMES
 
     def __init__(self, has_filter):
         self.has_filter = has_filter
-
-    def __enter__(self):
-        return self
-
-    def __exit__(self, *_):
-        with undisturbed():
-            for name in NAMES:
-                remove(own_name(name))
 
     def build(self, make_network, folder):
         space = make_switch_space()
@@ -212,7 +205,7 @@ def honest(ground):
 def make(make_network, folder, has_filter):
     """Tries one network."""
     os.mkdir(folder)
-    with Ground(has_filter) as ground:
+    with TenantGround(has_filter) as ground:
         network = ground.build(make_network, folder)
         trial, is_joined = Trial(network.title), False
         try:

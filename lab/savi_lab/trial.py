@@ -9,7 +9,7 @@ from dataclasses import dataclass, field
 
 from . import attacks, frames, leases
 from .attacks import Field
-from .namespaces import PATIENCE, PREFIX, LabFault, Late, die_with_parent, own_name, remove, undisturbed, wait_until
+from .namespaces import PATIENCE, PREFIX, Ground, LabFault, Late, die_with_parent, undisturbed, wait_until
 from .networks import make_switch_space
 from .stations import (HONEST, INTERFACE, OUTSIDE, OWN_PREFIX, STATIONS, Station, reaches, reaches_from, start_router,
                        start_server)
@@ -32,19 +32,13 @@ class Trial:
     checked: str | None = None
 
 
-class Ground:
-    """The namespaces of a trial, and what runs there. However it ends they are removed, and what runs there with them."""
+class StationGround(Ground):
+    """The namespaces of the stations, and what runs there."""
+
+    names = ("switch", *STATIONS)
 
     def __init__(self, folder, find=shutil.which):
         self.folder, self.find, self.stations, self.network, self.field = folder, find, {}, None, None
-
-    def __enter__(self):
-        return self
-
-    def __exit__(self, *_):
-        with undisturbed():
-            for name in ("switch", *STATIONS):
-                remove(own_name(name))
 
     def build(self, make_network):
         space = make_switch_space()
@@ -103,7 +97,7 @@ def try_honest(ground, is_server):
 def make(make_network, folder, tell):
     """Tries one network. `tell` is called with each thing worth saying meanwhile. What a switch did until something was late
     is judged too."""
-    with Ground(folder) as ground:
+    with StationGround(folder) as ground:
         network = ground.build(make_network)
         trial, is_joined = Trial(network.title, network.is_peer, network.is_plain), False
         try:
