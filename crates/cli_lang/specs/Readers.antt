@@ -103,12 +103,12 @@ Stamps readings live old new (got.Overlong at) = new ≡ old
 Stamps readings live old new got.Failed = new ≡ old
 
 -- Where no line was read, the buffer stays as it was.
-abbrev pub KeepsBuffer : LineGot → List ℕ → List ℕ → Type 0
-KeepsBuffer (got.Line stamp len) old new = Unit {0}
-KeepsBuffer got.End old new = new ≡ old
-KeepsBuffer (got.Malformed at) old new = new ≡ old
-KeepsBuffer (got.Overlong at) old new = new ≡ old
-KeepsBuffer got.Failed old new = new ≡ old
+abbrev pub KeepsUnlessLine : LineGot → List ℕ → List ℕ → Type 0
+KeepsUnlessLine (got.Line stamp len) old new = Unit {0}
+KeepsUnlessLine got.End old new = new ≡ old
+KeepsUnlessLine (got.Malformed at) old new = new ≡ old
+KeepsUnlessLine (got.Overlong at) old new = new ≡ old
+KeepsUnlessLine got.Failed old new = new ≡ old
 
 -- the answer of an input that has ended so
 abbrev pub answer_of : How → Option LineGot

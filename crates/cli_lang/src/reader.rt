@@ -46,7 +46,7 @@ impl Model for Lines {
 impl Lines {
     ghost use Rattle.savi_kinds.specs.declared.entry.How.TheVariants as how;
     ghost use Rattle.cli_lang.specs.Takings.{DecideLine};
-    ghost use Rattle.cli_lang.specs.Readers.{Running, Ended, Answers, Stamps, KeepsBuffer, last_answer, longest_piece, IsPlaced};
+    ghost use Rattle.cli_lang.specs.Readers.{Running, Ended, Answers, Stamps, KeepsUnlessLine, last_answer, longest_piece, IsPlaced};
 
     /// A reader at the beginning of its input.
     pub fn new() -> Lines
@@ -87,7 +87,7 @@ impl Lines {
 
         // A reader that has ended reads nothing and answers the same.
         ensures again { IfSome (last_answer self.old) (λ answer. (result ≡ answer) × (self.new ≡ self.old) × (source.new ≡ source.old) × (buf.new ≡ buf.old)) }
-        ensures kept { KeepsBuffer result buf.old buf.new }
+        ensures kept { KeepsUnlessLine result buf.old buf.new }
         ensures stamps { Stamps C.readings live clock.old clock.new result }
         ensures placed { IsPlaced self.new }
     {
@@ -116,7 +116,7 @@ impl Lines {
         ensures cause { result ≡ LineGot.Failed → Rose (S.faults source.old) (S.faults source.new) }
         ensures still { result ≢ LineGot.Failed → S.faults source.new ≡ S.faults source.old }
         ensures octets { (gave : List ℕ) × Takes (S.left source.old) (S.left source.new) gave × Answers live self.old self.new gave buf.new (S.left source.new) result }
-        ensures kept { KeepsBuffer result buf.old buf.new }
+        ensures kept { KeepsUnlessLine result buf.old buf.new }
         ensures stamps { Stamps C.readings live clock.old clock.new result }
         ensures placed { IsPlaced self.new }
     {

@@ -2,8 +2,7 @@
 
 ghost use Rattle.savi_kinds.specs.ValidPlan.{IsValidPlan};
 
-use arrayvec::ArrayVec;
-use hist_store::put_header;
+use hist_store::{JournalLine, put_header};
 use savi_conf::{ConfFault, read_plan};
 use savi_kinds::Plan;
 use std::alloc::Global;
@@ -35,7 +34,7 @@ pub fn print_answer(
 fn print_plan(rt: &impl Print, plan: &Plan) -> anyhow::Result<()>
     requires { IsValidPlan plan.now }
 {
-    let mut head = ArrayVec::new();
+    let mut head = JournalLine::new();
     put_header(plan, &mut head);
     print!(rt; "{}", str::from_utf8(head.as_slice())?)?;
     println!(rt; "journal {:?}", plan.journal.as_str())?;

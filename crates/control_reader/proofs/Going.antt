@@ -5,6 +5,7 @@ use Rattle.std.proofs.lemmas.List.Elements.{All-nil, All-push}
 use Rattle.savi_kinds.specs.declared.entry.How.{How}
 use Rattle.savi_kinds.specs.declared.entry.How.TheVariants as hows
 use Rattle.savi_ends.specs.Faults.{Rose}
+use Rattle.savi_ends.proofs.FaultCounts.{rose_since}
 use Rattle.savi_ends.specs.Octets.{Takes}
 use Rattle.savi_ends.specs.Readings.{AddsReading}
 use Rattle.savi_ends.proofs.Octets.{takes_more}
@@ -29,9 +30,6 @@ said_more lines line = map-append (λ (l : Line). Said l) lines (line ∷ [])
 
 stamps_more : (lines : List Line) (line : Line) → line_stamps (lines ++ line ∷ []) ≡ line_stamps lines ++ line.stamp ∷ []
 stamps_more lines line = map-append (λ (l : Line). l.stamp) lines (line ∷ [])
-
-pub rose_later : (first mid new : ℕ) → mid ≡ first → Rose mid new → Rose first new
-rose_later first mid new same rose = omega arith
 
 pub not_before : (first mid new : ℕ) → mid ≡ first → mid ≤ new → first ≤ new
 not_before first mid new same later = omega (arith, same, later)
@@ -144,7 +142,7 @@ module _ {S C : Type 0} (left : S → Option (List ℕ)) (faults : S → ℕ) (r
         near = near;
         stamped = subst (λ (c : C). AddsReadings (readings clock) (readings c) (line_stamps goes.said)) (sym unread) goes.stamped;
         later = not_before (faults source) (faults old.source) (faults new.source) goes.still later;
-        broken = λ failed. rose_later (faults source) (faults old.source) (faults new.source) goes.still (cause failed);
+        broken = λ failed. rose_since (faults source) (faults old.source) (faults new.source) goes.still (cause failed);
         still = λ other. stays other ∙ goes.still;
       },
     )

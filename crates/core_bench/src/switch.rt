@@ -7,49 +7,56 @@ ghost use Rattle.savi_history.specs.Legal.{IsOpen};
 ghost use Rattle.savi_core.specs.Machines.{base_of};
 ghost use Rattle.savi_kinds.specs.declared.entry.Who.TheVariants.{Ingress};
 
-use crate::frames::{Frame, HOSTS, port};
+use crate::frames::{Frame, port};
+use crate::load::Load;
 use frame_class::a_frame_is_seen_once;
 use savi_conf::read_plan;
 use savi_core::{Batch, Core, Event, Stepped};
 use savi_kinds::{DEPTH_MOST, Moment, PORTS_MOST, Plan, Port, Verdict, Who};
 use std::alloc::{AllocError, Global};
 
-/// What the configuration says before it says whether sources are validated.
+/// What the configuration says before it says how many addresses a port may hold.
 const LIMITS: &str =
-    "mac = \"02:00:00:00:00:01\"\njournal = \"journal.txt\"\nper_port = 64\nentries = 1000000\n";
+    "mac = \"02:00:00:00:00:01\"\njournal = \"journal.txt\"\nentries = 1000000\nper_port = ";
 
 /// The numbers of ports in decimal.
 const NUMBERS: [&str; PORTS_MOST] = [
     "1", "2", "3", "4", "5", "6", "7", "8", "9", "10", "11", "12", "13", "14", "15", "16",
 ];
 
-/// A switch with so many ports, of which the first eight are those of hosts and the others trusted; each may hold 64
-/// addresses.
-pub fn switch(alloc: Global, ports: u8, validates: bool) -> anyhow::Result<Core> {
-    let text = plan_text(alloc, ports, validates)?;
+/// A switch with the ports of this load.
+pub fn switch(alloc: Global, load: Load) -> anyhow::Result<Core> {
+    let text = plan_text(alloc, load)?;
     let plan = read_plan(alloc, text.as_str().as_bytes(), true)?;
     Ok(Core::make(alloc, plan)?)
 }
 
 // The configuration of such a switch.
-fn plan_text(alloc: Global, ports: u8, validates: bool) -> Result<String, AllocError> {
+fn plan_text(alloc: Global, load: Load) -> Result<String, AllocError> {
     let mut text = String::new(alloc);
-    let savi = if validates { "on" } else { "off" };
-    push_all(&mut text, &[LIMITS, "savi = \"", savi, "\"\n"])?;
+    let savi = if load.validates { "on" } else { "off" };
+    let limits = [LIMITS, load.part.per_port(), "\nsavi = \"", savi, "\"\n"];
+    push_all(&mut text, &limits)?;
     for (place, number) in NUMBERS.iter().enumerate() {
-        if place < usize::from(ports) {
-            push_port(&mut text, number, place < usize::from(HOSTS))?;
+        if place < usize::from(load.ports) {
+            push_port(&mut text, number, place, load)?;
         }
     }
     Ok(text)
 }
 
-// Appends the table of a port of this number.
-fn push_port(text: &mut String, number: &str, is_host: bool) -> Result<(), AllocError> {
+// Appends the table of the port of this number, which is at this place.
+fn push_port(text: &mut String, number: &str, place: usize, load: Load) -> Result<(), AllocError> {
+    let is_host = place < usize::from(load.hosts);
     let role = if is_host { "host" } else { "trusted" };
+    let vlan = if load.vlans > 1 && place % 2 == 1 {
+        "2"
+    } else {
+        "1"
+    };
     push_all(text, &["[[port]]\nnumber = ", number, "\nrole = \"", role])?;
-    push_all(text, &["\"\ninput = \"", number, ".pcap\"\n"])?;
-    push_all(text, &["output = \"", number, ".out\"\n"])
+    push_all(text, &["\"\nvlan = ", vlan, "\ninput = \"", number])?;
+    push_all(text, &[".pcap\"\noutput = \"", number, ".out\"\n"])
 }
 
 fn push_all(text: &mut String, pieces: &[&str]) -> Result<(), AllocError> {

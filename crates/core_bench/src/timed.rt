@@ -1,9 +1,10 @@
 //! What steps of a switch take.
 
-use crate::frames::{Frame, packet, port, port_of};
+use crate::frames::{Frame, packet, port, port_of, request};
+use crate::load::Load;
 use crate::switch::{drain_all, enter, switch, tick};
 use savi_core::{Batch, Core};
-use savi_kinds::Moment;
+use savi_kinds::{Moment, PORTS_MOST};
 use std::alloc::{AllocError, Global};
 use std::io;
 use std::time::{CpuClock, Duration};
@@ -17,17 +18,7 @@ const CLAIMED: Moment = 1_000;
 
 const SEEN: Moment = 2_000;
 
-pub const START: Moment = 3_000;
-
-/// What a switch has to do: how many ports there are, how many addresses are bound, how many stations are known at each
-/// port, and whether sources are validated.
-#[derive(Clone, Copy)]
-pub struct Load {
-    pub ports: u8,
-    pub addresses: u64,
-    pub stations_a_port: u64,
-    pub validates: bool,
-}
+pub const START: Moment = 2_001;
 
 /// The steps that are timed at a switch, one in each ms.
 #[derive(Clone, Copy)]
@@ -92,7 +83,7 @@ fn time_switch<R: CpuClock>(
     batch: &mut Batch,
     timed: &mut Timed,
 ) -> anyhow::Result<()> {
-    let mut core = switch(alloc, load.ports, load.validates)?;
+    let mut core = switch(alloc, load)?;
     time_at(rt, alloc, load, steps, &mut core, batch, timed)
 }
 
@@ -107,9 +98,10 @@ fn time_at<R: CpuClock>(
     timed: &mut Timed,
 ) -> anyhow::Result<()> {
     for stamp in [CLAIMED, SEEN] {
-        bind_all(alloc, core, batch, load.addresses, stamp)?;
+        bind_all(alloc, core, batch, load, stamp)?;
     }
     learn_all(alloc, core, batch, load)?;
+    ask_all(alloc, core, batch, load)?;
     match steps {
         Steps::Frames(frames, times) => enter_over(rt, core, batch, frames, times, timed)?,
         Steps::Ticks(first, count) => tick_all(rt, core, first, count, timed)?,
@@ -122,11 +114,12 @@ fn bind_all(
     alloc: Global,
     core: &mut Core,
     batch: &mut Batch,
-    addresses: u64,
+    load: Load,
     stamp: Moment,
 ) -> Result<(), AllocError> {
-    for n in 0..addresses {
-        let frame = packet(alloc, n, (port_of(n), 0), (port_of(n), 0))?;
+    for n in 0..load.addresses {
+        let at = port_of(n, load.hosts);
+        let frame = packet(alloc, n, (at, 0), (at, 0))?;
         enter(core, &frame, stamp);
         drain_all(core, batch);
     }
@@ -146,6 +139,21 @@ fn learn_all(
             enter(core, &frame, SEEN);
             drain_all(core, batch);
         }
+    }
+    Ok(())
+}
+
+// A request comes of each that is to be open.
+fn ask_all(
+    alloc: Global,
+    core: &mut Core,
+    batch: &mut Batch,
+    load: Load,
+) -> Result<(), AllocError> {
+    for n in 0..load.requests {
+        let frame = request(alloc, n, PORTS_MOST as u64)?;
+        enter(core, &frame, SEEN);
+        drain_all(core, batch);
     }
     Ok(())
 }

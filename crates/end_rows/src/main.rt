@@ -17,6 +17,8 @@
 //!     cuts READER MOST             the same of each front of the input, once where that is the same
 //!     cuts READER MOST fails       the same where the read behind the octets of each front fails
 //!     form FORM MOST               three answers to a reader of `pcap` or `stream`, and the octets of each frame
+//!     blocks MOST READ             four answers to a reader of captures of several interfaces
+//!     split MOST                   such a capture is split, with an output for the first interface alone
 //!     write FORM WRITE FRAMES      a capture or a stream is written, of frames MOMENT/DIGITS
 //!     again FORM OCTETS            a frame of so many octets is written, and four answers to a reader of what was written
 //!     source MOST READ             six reads of a source into four octets, those octets, and how many reads failed
@@ -32,12 +34,14 @@
 //! read, the write and the opening that fail, and 0 is none.
 #![tactic(auto)]
 
+mod blocks;
 mod clocks;
 mod ends;
 mod forms;
 mod input;
 mod lines;
 mod readers;
+mod split;
 mod state;
 mod world;
 mod writers;

@@ -1,11 +1,13 @@
 //! What lines go by, and what each of them does.
 
+use crate::blocks::print_blocks;
 use crate::clocks::print_clocks;
 use crate::ends::{print_clock, print_count, print_filled, print_sink, print_source, print_sure};
 use crate::forms::print_input;
 use crate::input::Input;
 use crate::lines::print_lines;
 use crate::readers::{print_answers, print_cuts};
+use crate::split::print_split;
 use crate::world::print_world;
 use crate::writers::{print_again, print_written};
 use anyhow::bail;
@@ -48,6 +50,8 @@ fn print_read<R: Print + Wait>(
         "read" => print_answers(rt, alloc, octets, rest),
         "cuts" => print_cuts(rt, alloc, octets, rest),
         "form" => print_input(rt, alloc, octets, rest),
+        "blocks" => print_blocks(rt, alloc, octets, rest),
+        "split" => print_split(rt, alloc, octets, rest),
         "source" => print_source(rt, alloc, octets, rest),
         "sure" => print_sure(rt, alloc, octets),
         "fill" => print_filled(rt, alloc, octets, rest),

@@ -1,6 +1,8 @@
 //! What a frame is.
 
 ghost use Rattle.std.specs.Prelude.{◌≡◌};
+ghost use Rattle.eth_frame.specs.declared.vlan_tag.Tag.TheVariants as tags;
+ghost use Rattle.frame_class.specs.declared.classes.Class.TheVariants as classes;
 ghost use Rattle.frame_class.specs.Classes.{eth_of};
 
 use dhcp6_read::Dhcp;
@@ -82,6 +84,19 @@ pub enum Read {
     },
     /// Another upper header that is known.
     Plain,
+}
+
+impl Seen {
+    /// What is seen of no octets: room for what is seen of a frame.
+    pub fn nothing() -> Seen
+        ensures tag { result.tag ≡ tags.None }
+        ensures class { result.class ≡ classes.Runt }
+    {
+        Seen {
+            tag: Tag::None,
+            class: Class::Runt,
+        }
+    }
 }
 
 impl Class {

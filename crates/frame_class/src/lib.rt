@@ -1,5 +1,5 @@
 //! One reading of a frame: `class` says what it is, from the Ethernet header to the first octets of its message, and `seen`
-//! gives its VLAN tag beside the class of its inner frame.
+//! gives its VLAN tag beside the class of its inner frame. `see` puts that where it stays.
 //!
 //! A frame is read once, and all that is decided of it afterwards is decided of its tag and its class. The contract of a
 //! class is the relation `IsClassOf` of `specs/Reading.antt`, in the terms of the readers below: the Ethernet header, the
@@ -18,4 +18,4 @@ mod reader;
 
 pub use classes::{Class, Read, Seen};
 pub use laws::{a_bad_tag_is_a_class, a_frame_has_its_class, a_frame_is_seen_once};
-pub use reader::{IPV6_TYPE, class, seen};
+pub use reader::{IPV6_TYPE, class, see, seen};

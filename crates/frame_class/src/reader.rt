@@ -50,19 +50,29 @@ pub fn class(frame: &[u8]) -> Class
     class
 }
 
-/// What is seen of a frame: its VLAN tag, and what its inner frame is. A frame of fewer than 14 octets has no tag. The
-/// octets, without the check sequence, are at most 1,518. O(n): the headers are gone through once, the octets of a message
-/// of neighbor discovery also for their checksum, and those of a message of DHCPv6 for its options. Behind a tag all is
-/// read where it stands.
+/// What is seen of a frame, as `see` puts it. O(n), as `see`, and it is copied.
 pub fn seen(frame: &[u8]) -> Seen
     requires { length frame.now ≤ FRAME_OCTETS_MOST }
     ensures reading { IsSeen frame.now result }
     ensures only { (other : Seen) → IsSeen frame.now other → other ≡ result }
 {
+    let mut seen = Seen::nothing();
+    see(frame, &mut seen);
+    seen
+}
+
+/// Puts what is seen of a frame in the place of `into`: its VLAN tag, and what its inner frame is. A frame of fewer than 14
+/// octets has no tag. The octets, without the check sequence, are at most 1,518. O(n): the headers are gone through once,
+/// the octets of a message of neighbor discovery also for their checksum, and those of a message of DHCPv6 for its options.
+/// Behind a tag all is read where it stands.
+pub fn see(frame: &[u8], into: &mut Seen)
+    requires { length frame.now ≤ FRAME_OCTETS_MOST }
+    ensures reading { IsSeen frame.now into.new }
+    ensures only { (other : Seen) → IsSeen frame.now other → other ≡ into.new }
+{
     let tag = tag_if_whole(frame);
-    let mut class = Class::Runt;
-    put_inner_class(frame, tag, &mut class);
-    Seen { tag, class }
+    into.tag = tag;
+    put_inner_class(frame, tag, &mut into.class);
 }
 
 /// The tag of a frame, which is none where the frame has fewer than 14 octets.

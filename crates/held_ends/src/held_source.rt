@@ -15,6 +15,8 @@ pub enum Note<'a> {
     /// The source of port 1 notes each read, and gives its second record only once the sink of port 3 was given the first
     /// frame of port 2.
     Reads(&'a Marks),
+    /// The source of port 1 notes each read.
+    Counts(&'a Marks),
 }
 
 /// A source of records in memory, of which a read gives one.
@@ -48,10 +50,16 @@ impl<'a> Source for HeldSource<'a> {
     }
 
     fn read(&mut self, buf: &mut [u8]) -> Got {
-        if let Note::Reads(marks) = self.note {
-            let asked = marks.asked.fetch_add(1, Ordering::SeqCst);
-            if asked == 1 {
-                marks.wait_for(self.rt, &marks.given, 1);
+        match self.note {
+            Note::Nothing => {}
+            Note::Reads(marks) => {
+                let asked = marks.asked.fetch_add(1, Ordering::SeqCst);
+                if asked == 1 {
+                    marks.wait_for(self.rt, &marks.given, 1);
+                }
+            }
+            Note::Counts(marks) => {
+                marks.asked.fetch_add(1, Ordering::SeqCst);
             }
         }
         self.source.read(buf)

@@ -2,7 +2,7 @@
 
 ghost use Rattle.std.specs.Prelude.{◌≡◌, ◌≤◌, ℕ, List, true, false, Some, IfOk, IfSome};
 ghost use Rattle.savi_kinds.specs.Ports.{number_of};
-ghost use Rattle.savi_ends.specs.Faults.{RoseOnce};
+ghost use Rattle.savi_ends.specs.Faults.{Rose};
 
 use crate::frames::{FIRST_OF_1, FIRST_OF_2, FIRST_OF_3, SECOND_OF_1, SECOND_OF_2, SECOND_OF_3};
 use crate::held_clock::HeldClock;
@@ -40,7 +40,14 @@ pub enum Waits {
     ForNothing,
     /// They wait for nothing, ports 1 and 2 bring five frames each, and the journal's sink notes that a segment has ended.
     ForASegment,
+    /// They wait for nothing, port 1 brings 70 frames, of which its source notes each read, and the others bring none.
+    ForAFullRing,
 }
+
+/// How many frames a port brings where a segment ends behind them, and where its ring is filled.
+const SEGMENT_FRAMES: u32 = 5;
+
+const RING_FRAMES: u32 = 70;
 
 /// The ends of a port, or of control.
 pub type HeldEnds<'a> = Ends<HeldSource<'a>, HeldSink<'a>, HeldClock<'a>>;
@@ -81,7 +88,7 @@ impl<'a> HeldWorld<'a> {
         let err = MemSink::make(alloc, TEXT_ROOM, Vec::new(alloc))?;
         let waited = match waits {
             Waits::ForOneAnother => Some(marks),
-            Waits::ForNothing | Waits::ForASegment => None,
+            Waits::ForNothing | Waits::ForASegment | Waits::ForAFullRing => None,
         };
         Ok(HeldWorld {
             alloc,
@@ -122,7 +129,7 @@ impl<'a> HeldWorld<'a> {
     {
         let hold = match self.waits {
             Waits::ForASegment => Hold::Closed(self.marks),
-            Waits::ForOneAnother | Waits::ForNothing => Hold::Nothing,
+            Waits::ForOneAnother | Waits::ForNothing | Waits::ForAFullRing => Hold::Nothing,
         };
         let sink = MemSink::make(self.alloc, JOURNAL_ROOM, Vec::new(self.alloc))?;
         Ok(HeldSink::new(self.rt, sink, hold))
@@ -135,11 +142,12 @@ impl<'a> HeldWorld<'a> {
     {
         let note = match (self.waits, number) {
             (Waits::ForOneAnother, 1) => Note::Reads(self.marks),
-            (Waits::ForOneAnother | Waits::ForNothing | Waits::ForASegment, _) => Note::Nothing,
+            (Waits::ForAFullRing, 1) => Note::Counts(self.marks),
+            _ => Note::Nothing,
         };
         let hold = match (self.waits, number) {
             (Waits::ForOneAnother, 3) => Hold::Firsts(self.marks),
-            (Waits::ForOneAnother | Waits::ForNothing | Waits::ForASegment, _) => Hold::Nothing,
+            _ => Hold::Nothing,
         };
         Ok(Ends {
             source: HeldSource::new(self.alloc, self.rt, self.records_of(number)?, note),
@@ -148,26 +156,35 @@ impl<'a> HeldWorld<'a> {
         })
     }
 
-    // Adds two frames of a port by turns, five in all.
-    fn add_five(
+    // Adds two frames of a port by turns, so many in all.
+    fn add_by_turns(
         &self,
         octets: &mut Vec<u8>,
         first: &[u8],
         second: &[u8],
+        count: u32,
     ) -> Result<(), AllocError> {
-        for _ in 0..2 {
-            octets.extend_from_slice(first)?;
-            octets.extend_from_slice(second)?;
+        for number in 0..count {
+            let frame = if number % 2 == 0 { first } else { second };
+            octets.extend_from_slice(frame)?;
         }
-        octets.extend_from_slice(first)
+        Ok(())
     }
 
     // What a port brings.
     fn records_of(&self, number: u8) -> Result<Vec<u8>, AllocError> {
         let mut octets = Vec::new(self.alloc);
         match (self.waits, number) {
-            (Waits::ForASegment, 1) => self.add_five(&mut octets, &FIRST_OF_1, &SECOND_OF_1)?,
-            (Waits::ForASegment, 2) => self.add_five(&mut octets, &FIRST_OF_2, &SECOND_OF_2)?,
+            (Waits::ForASegment, 1) => {
+                self.add_by_turns(&mut octets, &FIRST_OF_1, &SECOND_OF_1, SEGMENT_FRAMES)?
+            }
+            (Waits::ForASegment, 2) => {
+                self.add_by_turns(&mut octets, &FIRST_OF_2, &SECOND_OF_2, SEGMENT_FRAMES)?
+            }
+            (Waits::ForAFullRing, 1) => {
+                self.add_by_turns(&mut octets, &FIRST_OF_1, &SECOND_OF_1, RING_FRAMES)?
+            }
+            (Waits::ForAFullRing, _) => {}
             (_, 1) => {
                 octets.extend_from_slice(&FIRST_OF_1)?;
                 octets.extend_from_slice(&SECOND_OF_1)?;
@@ -193,7 +210,7 @@ impl<'a> HeldWorld<'a> {
         let line = b"quit\n".to_vec(self.alloc)?;
         let hold = match self.waits {
             Waits::ForOneAnother => Hold::Reply(self.marks),
-            Waits::ForNothing | Waits::ForASegment => Hold::Nothing,
+            Waits::ForNothing | Waits::ForASegment | Waits::ForAFullRing => Hold::Nothing,
         };
         Ok(Ends {
             source: HeldSource::new(self.alloc, self.rt, line, Note::Nothing),
@@ -247,7 +264,7 @@ impl<'a> HeldWorld<'a> {
 // Counts an opening that failed.
 fn fault(faults: &mut u64) -> OpenFailed
     ensures later { faults.old ≤ faults.new }
-    ensures once { RoseOnce faults.old faults.new }
+    ensures once { Rose faults.old faults.new }
 {
     *faults = faults.saturating_add(1);
     OpenFailed

@@ -20,8 +20,9 @@ pub struct Marks {
     pub turn_of_1: AtomicU64,
     pub turn_of_2: AtomicU64,
     pub turn_of_3: AtomicU64,
-    /// How often the source of port 1 was asked for a record.
+    /// How often the source of port 1 was asked for a record, and how often it had been when its ring was full.
     pub asked: AtomicU64,
+    pub asked_when_full: AtomicU64,
     /// 1 once the sink of port 3 was given the first frame of port 1.
     pub given_of_1: AtomicU64,
     /// 1 once the sink of port 3 was given the first frame of port 2.
@@ -47,6 +48,7 @@ impl Marks {
             turn_of_2: AtomicU64::new(0),
             turn_of_3: AtomicU64::new(0),
             asked: AtomicU64::new(0),
+            asked_when_full: AtomicU64::new(0),
             given_of_1: AtomicU64::new(0),
             given: AtomicU64::new(0),
             replied: AtomicU64::new(0),

@@ -1,7 +1,7 @@
 //! Live sessions of the whole program whose workers must run side by side: one over ends that wait for one another
 //! (`held_ends`), for each port one in which its input is held back until all that the other two bring is entered, and one of
 //! many segments, behind the first of which two inputs wait for one another: so a session that has memory doesn't serve its
-//! segments by one thread.
+//! segments by one thread; and one in which the ring of a port is filled, by a reader that goes on until there is no room.
 //!
 //! The input is the configuration, of three trusted ports over streams. What is printed is the same whatever the order in
 //! which the workers come to the switch: the status, what standard error was told, the frames that were written at each
@@ -12,10 +12,12 @@
 
 mod anew_gate;
 mod end_gate;
+mod full_gate;
 mod held_gate;
 
 use anew_gate::AnewGate;
 use end_gate::EndGate;
+use full_gate::FullGate;
 use held_ends::{
     FIRST_OF_1, FIRST_OF_2, FIRST_OF_3, HeldWorld, Marks, PLAN, SECOND_OF_1, SECOND_OF_2,
     SECOND_OF_3, Waits,
@@ -53,6 +55,8 @@ fn main(rt: HostRuntime) -> anyhow::Result<()> {
     }
     println!(rt; "two inputs wait for one another behind a segment")?;
     run_in_segments(&rt, rt, plan.as_str())?;
+    println!(rt; "the ring of port 1 is filled")?;
+    run_full(&rt, rt, plan)?;
     Ok(())
 }
 
@@ -122,6 +126,31 @@ fn run_in_segments<R: Print + Threads + Wait + Sync>(
     let of_1 = marks.anew_of_1.load(Ordering::SeqCst);
     let of_2 = marks.anew_of_2.load(Ordering::SeqCst);
     println!(rt; "came by behind a segment: {of_1} and {of_2}")?;
+    print_whether_given_up(rt, &marks)
+}
+
+// Runs a session in which the ring of port 1 is filled before its first frame is judged.
+fn run_full<R: Print + Threads + Wait + Sync>(
+    rt: &R,
+    host: HostRuntime,
+    plan: String,
+) -> anyhow::Result<()> {
+    let alloc = host.alloc();
+    let marks = Marks::new();
+    let gate = FullGate {
+        rt: host,
+        marks: &marks,
+    };
+    let mut world = HeldWorld::make(alloc, host, plan, &marks, Waits::ForAFullRing)?;
+    let status = run(rt, alloc, words_of(alloc)?.as_slice(), &mut world, &gate);
+    println!(rt; "status {status}")?;
+    for number in 1..=PORTS {
+        if let Some(port) = Port::new(number) {
+            print_records(rt, number, world.sent(port).unwrap_or(&[]), true)?;
+        }
+    }
+    let asked = marks.asked_when_full.load(Ordering::SeqCst);
+    println!(rt; "records that were asked for by then: {asked}")?;
     print_whether_given_up(rt, &marks)
 }
 

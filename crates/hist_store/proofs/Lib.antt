@@ -6,6 +6,7 @@ pub mod Words
 pub mod AddressWords
 pub mod FieldWords
 pub mod OnePort
+pub mod FirstPlaces
 pub mod FieldsRead
 pub mod HeaderRead
 pub mod HexRead

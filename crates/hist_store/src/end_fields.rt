@@ -4,7 +4,8 @@ ghost use Rattle.savi_kinds.specs.Characters.{space};
 ghost use Rattle.hist_store.specs.TextOfLines.{spaced};
 ghost use Rattle.hist_store.specs.EndTexts.{who_text, how_fields};
 
-use crate::pieces::{JournalLine, put_number, put_octets, put_word};
+use crate::journal_line::JournalLine;
+use crate::pieces::{put_number, put_octets, put_word};
 use crate::port_fields::put_port;
 use savi_kinds::{How, Who};
 

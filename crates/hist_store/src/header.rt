@@ -7,7 +7,8 @@ ghost use Rattle.hist_store.specs.TextOfLines.{lines_text};
 ghost use Rattle.hist_store.specs.declared.version.Version.TheVariants.{Two};
 ghost use Rattle.hist_store.specs.JournalTexts.{address_text, journal_begin_text, journal_end_text, journal_header_text, limit_lines, journal_port_fields, prefix_fields, prefix_text_by, setting, time_lines, word_lines};
 
-use crate::pieces::{JournalLine, put_decimal, put_octets, put_word};
+use crate::journal_line::JournalLine;
+use crate::pieces::{put_decimal, put_octets, put_word};
 use crate::port_fields::put_port_field;
 use crate::vlan_fields::{put_port_vlans, put_vlan};
 use savi_kinds::{Addr, Plan, PortPlan, PrefixPlan, put_addr, put_mac, savi_word, unknown_word};

@@ -13,6 +13,7 @@
 mod end_fields;
 mod header;
 mod hist;
+mod journal_line;
 mod line;
 mod line_laws;
 mod pieces;
@@ -32,14 +33,13 @@ mod vlan_fields;
 pub use end_fields::{put_how, put_who};
 pub use header::{put_begin, put_end, put_header};
 pub use hist::Hist;
+pub use journal_line::{JOURNAL_LINE_OCTETS, JournalLine, LineFull};
 pub use line::put_line;
 pub use line_laws::{
     a_line_says_one_entry, a_segment_ends_at_one_line, a_written_line_says_its_entry,
     an_entry_has_one_line,
 };
-pub use pieces::{
-    JOURNAL_LINE_OCTETS, JournalLine, put_decimal, put_hex, put_number, put_octets, put_word,
-};
+pub use pieces::{put_decimal, put_hex, put_number, put_octets, put_word};
 pub use port_fields::{put_port, put_port_field, put_ports};
 pub use read_header::{
     is_begin_line, read_mac_line, read_port_line, read_prefix_line, read_savi_line, read_setting,

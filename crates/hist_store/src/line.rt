@@ -5,7 +5,8 @@ ghost use Rattle.hist_store.specs.TextOfLines.{spaced};
 ghost use Rattle.hist_store.specs.LineTexts.{FitsAct, FitsLine, act_fields, line_text, probe_fields};
 
 use crate::end_fields::{put_how, put_who};
-use crate::pieces::{JournalLine, put_decimal, put_hex, put_number, put_word};
+use crate::journal_line::JournalLine;
+use crate::pieces::{put_decimal, put_hex, put_number, put_word};
 use crate::port_fields::{put_port_field, put_ports};
 use crate::verdict_fields::put_entry_verdict;
 use savi_kinds::{Act, Entry, Port};

@@ -4,16 +4,7 @@ ghost use Rattle.hex.specs.Hex.{encode_lower, lower_digits};
 ghost use Rattle.savi_kinds.specs.Characters.{space};
 ghost use Rattle.hist_store.specs.LineTexts.{hex_text};
 
-use arrayvec::ArrayVec;
-
-/// The most octets of a line of the journal, its line feed aside.
-pub const JOURNAL_LINE_OCTETS: usize = 3_400;
-
-/// A buffer for a line of the journal, or for its header, which is shorter than the longest line.
-pub type JournalLine = ArrayVec<u8, JOURNAL_LINE_OCTETS>;
-
-// How many octets are turned into digits at a time. A buffer for the digits of a whole frame would be blanked for each line.
-const PIECE_OCTETS: usize = 64;
+use crate::journal_line::JournalLine;
 
 /// Appends these octets.
 pub fn put_octets(into: &mut JournalLine, octets: &[u8])
@@ -74,26 +65,11 @@ pub fn put_hex(into: &mut JournalLine, octets: &[u8])
         into.push(b'-');
         return;
     }
-    for piece in octets.chunks(PIECE_OCTETS) {
-        put_digits(into, piece);
-    }
-}
-
-// Appends the digits of these octets.
-fn put_digits(into: &mut JournalLine, octets: &[u8])
-    requires short { length octets.now ≤ 64 }
-    requires room { array_vec_len into.old + 2 * length octets.now ≤ 3400 }
-    ensures text { into.new.items ≡ into.old.items ++ encode_lower octets.now }
-    ensures size { array_vec_len into.new ≡ array_vec_len into.old + 2 * length octets.now }
-{
-    let mut digits = [0; 2 * PIECE_OCTETS];
-    let digits = &mut digits[..2 * octets.len()];
-    write_digits(octets, digits);
-    put_octets(into, digits);
+    into.push_digits(octets);
 }
 
 // Writes the two digits of each octet. They are computed and not looked up, so that a compiler may make many at a time.
-fn write_digits(octets: &[u8], digits: &mut [u8])
+pub(crate) fn write_digits(octets: &[u8], digits: &mut [u8])
     requires { length digits.old ≡ 2 * length octets.now }
     ensures { digits.new ≡ encode_lower octets.now }
 {
@@ -105,10 +81,11 @@ fn write_digits(octets: &[u8], digits: &mut [u8])
     }
 }
 
-// The digit of a value below 16.
+// The digit of a value below 16. What stands between `9` and `a` is added, so that both are computed alike.
 fn digit_of(value: u8) -> u8
     requires { value < 16 }
     ensures { result ≡ slice_index lower_digits value }
 {
-    if value < 10 { value + 48 } else { value + 87 }
+    let gap = if value < 10 { 0 } else { 39 };
+    value + 48 + gap
 }

@@ -6,7 +6,8 @@ ghost use Rattle.savi_kinds.specs.Ports.{number_of};
 ghost use Rattle.savi_kinds.specs.PortSets.{is_member};
 ghost use Rattle.hist_store.specs.PortTexts.{port_text, members_text};
 
-use crate::pieces::{JournalLine, put_decimal};
+use crate::journal_line::JournalLine;
+use crate::pieces::put_decimal;
 use savi_kinds::{PORTS_MOST, Port, PortSet};
 
 /// Appends a space and a port's number.

@@ -5,6 +5,7 @@ ghost use Rattle.savi_kinds.specs.Characters.{space};
 ghost use Rattle.hist_store.specs.TextOfLines.{spaced, HasNoSpace};
 ghost use Rattle.hist_store.specs.PortTexts.{port_text};
 
+use memchr::memchr;
 use savi_kinds::{PORTS_MOST, Port, read_decimal};
 
 // The greatest number of 32 bits.
@@ -30,7 +31,7 @@ pub fn end_at(text: &[u8], stop: u8) -> usize
 fn first_place(text: &[u8], stop: u8) -> Option<usize>
     ensures { result ≡ position (λ c. c == stop) text.now }
 {
-    text.iter().position(|c| *c == stop)
+    memchr(stop, text)
 }
 
 // The field behind the space at the front, and the fields behind it.

@@ -3,7 +3,8 @@ ghost use Rattle.arrayvec.specs.ArrayVec.{array_vec_len};
 ghost use Rattle.savi_kinds.specs.Characters.{space};
 ghost use Rattle.hist_store.specs.VerdictTexts.{rule_name, scope_text, verdict_text, entry_verdict_text};
 
-use crate::pieces::{JournalLine, put_octets};
+use crate::journal_line::JournalLine;
+use crate::pieces::put_octets;
 use crate::port_fields::put_port;
 use savi_kinds::{Rule, Scope, Verdict};
 

@@ -6,7 +6,8 @@ ghost use Rattle.savi_kinds.specs.Vlans.{IsVlan, numbers_of_vlan};
 ghost use Rattle.hist_store.specs.TextOfLines.{spaced};
 ghost use Rattle.hist_store.specs.VlanTexts.{port_vlan_fields, vlan_fields, vlans_text};
 
-use crate::pieces::{JournalLine, put_decimal, put_octets};
+use crate::journal_line::JournalLine;
+use crate::pieces::{put_decimal, put_octets};
 use savi_kinds::{DEFAULT_VLAN, Vlan};
 
 // Appends the VLANs of a port: of an access port at most 10 octets, and of a trunk, which lists at most 8, at most 46.

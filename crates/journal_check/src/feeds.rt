@@ -4,6 +4,8 @@ ghost use Rattle.std.specs.Prelude.{◌≡◌, ◌==◌, ◌≤◌, ◌++◌, �
 ghost use Rattle.std.specs.List.{position, position_or_len};
 ghost use Rattle.journal_check.specs.Feeds.{HasNoFeed, IsBehindLine};
 
+use memchr::memchr;
+
 /// The octets up to the first line feed, or all of them where there is none.
 pub fn line_front(octets: &[u8]) -> &[u8]
     ensures front { (rest : List ℕ) × (octets.now ≡ result.now ++ rest) × IsBehindLine rest }
@@ -24,5 +26,5 @@ fn feed_at(octets: &[u8]) -> usize
 fn feed_place(octets: &[u8]) -> Option<usize>
     ensures { result ≡ position (λ octet. octet == 10) octets.now }
 {
-    octets.iter().position(|octet| *octet == b'\n')
+    memchr(b'\n', octets)
 }

@@ -19,7 +19,6 @@ use crate::answer::Judged;
 use crate::lines::{Lines, Taken};
 use crate::lists::{Added, Lists};
 use crate::settings::{SETTING_LINES, Settings};
-use arrayvec::ArrayVec;
 use hist_store::{JournalLine, Version};
 use savi_ends::Source;
 use savi_kinds::{Plan, PortPlans, PrefixPlans, Text};
@@ -44,7 +43,7 @@ pub fn read_header<S: Source>(
     ensures fault { IfErr result (λ judged. IsBeforeEntries (checked_of judged)) }
     ensures bad { IfErr result (λ judged. IfRead (checked_of judged) (IfSome (to_come lines.old (S.left source.old)) (λ octets. IsBadHeader octets (checked_of judged)))) }
 {
-    let mut line = ArrayVec::new();
+    let mut line = JournalLine::new();
     let settings = read_settings(lines, source, &mut line)?;
     let lists = read_lists(alloc, lists, lines, source, &mut line)?;
     let version = settings.version;

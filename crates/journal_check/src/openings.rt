@@ -19,7 +19,6 @@ ghost use Rattle.journal_check.specs.Judging.{checked_of};
 
 use crate::answer::Judged;
 use crate::lines::{Lines, Taken};
-use arrayvec::ArrayVec;
 use hist_store::JournalLine;
 use savi_core::Core;
 use savi_ends::Source;
@@ -89,7 +88,7 @@ fn read_opening<S: Source>(
     ensures bad { IfErr result (λ judged. IfRead (checked_of judged) (IfSome (to_come lines.old (S.left source.old))
         (λ octets. BreaksAt (opening_lines core.now.plan (base_of core.now)) before octets (checked_of judged)))) }
 {
-    let mut wanted = ArrayVec::new();
+    let mut wanted = JournalLine::new();
     let mut i = 0;
     while core.put_base(i, &mut wanted) {
         read_wanted(

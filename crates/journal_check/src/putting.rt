@@ -13,7 +13,7 @@ ghost use Rattle.journal_check.specs.Differing.{event_by};
 ghost use Rattle.journal_check.specs.Puts.{Puts, put_of};
 
 use crate::coming::{is_open, may_end};
-use frame_class::seen;
+use frame_class::{Seen, see};
 use savi_core::{Batch, Core, Event, Stepped};
 use savi_kinds::{Act, Entry, FRAME_OCTETS_MOST, How, Port, Who};
 
@@ -51,7 +51,8 @@ fn put_frame(core: &mut Core, port: Port, stamp: u64, octets: &[u8]) -> Put
     if !is_open(core, Who::Ingress(port)) {
         return Put::Never;
     }
-    let seen = seen(octets);
+    let mut seen = Seen::nothing();
+    see(octets, &mut seen);
     put_of(core.step(Event::Frame {
         port,
         stamp,

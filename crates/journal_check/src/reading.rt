@@ -24,8 +24,7 @@ use crate::lists::Lists;
 use crate::openings::{Before, begin_segment};
 use crate::turns::{Turn, take_turn};
 use crate::watcher::{NoWatcher, Watcher, give_newest};
-use arrayvec::ArrayVec;
-use hist_store::Version;
+use hist_store::{JournalLine, Version};
 use savi_core::{Batch, Core};
 use savi_ends::Source;
 use savi_kinds::Plan;
@@ -145,7 +144,7 @@ fn check_segments<S: Source, W: Watcher>(
     ensures watched { HasWatched W.sees version core.old.plan (in_front (head_text version core.old.plan) (to_come lines.old (S.left source.old)))
         (checked_of result) watcher.old watcher.new }
 {
-    let mut line = ArrayVec::new();
+    let mut line = JournalLine::new();
     let mut before = Before {
         lines: header_length(core.plan()),
         segments: 0,

@@ -13,7 +13,7 @@ use crate::apart::{Apart, first_apart, none_wanted, numbers_apart};
 use crate::coming::is_finished;
 use crate::putting::{Put, put_event};
 use arrayvec::ArrayVec;
-use hist_store::{put_line, read_line, read_setting};
+use hist_store::{JournalLine, put_line, read_line, read_setting};
 use savi_core::{Batch, Core};
 use savi_kinds::{Entry, Moment, PortSet, Rule, Scope, Verdict};
 
@@ -191,7 +191,7 @@ fn fields_apart(n: u64, want: &Entry, octets: &[u8], line: &[u8]) -> Apart
         → first_apart (line_fields n (record { entry = want.now; octets = octets.now })) (line_fields n have) ≡ Some (field, other)
         → IsField field → IsField other → (result.want ≡ field) × (result.have ≡ other) }
 {
-    let mut again = ArrayVec::new();
+    let mut again = JournalLine::new();
     put_line(n, want, octets, &mut again);
     first_apart(again.as_slice(), line)
 }

@@ -8,8 +8,9 @@ use Rattle.savi_kinds.specs.declared.entry.How.TheVariants as hows
 use Rattle.savi_kinds.specs.Arrivals.{Arrival, Input}
 use Rattle.savi_kinds.specs.Arrivals as arrivals
 use Rattle.savi_ends.specs.Faults.{Rose}
+use Rattle.savi_ends.proofs.FaultCounts.{rose_since}
 use Rattle.savi_ends.specs.Octets.{Takes}
-use Rattle.pcap_io.specs.Readers.{State, Comes, HasRead, longest_record, record_place}
+use Rattle.pcap_io.specs.Readers.{State, Comes, HasRead, IsNearFault, record_place}
 use Rattle.pcap_io.proofs.CallsJoined.{has_read_more}
 use Rattle.savi_history.specs.Fits.{IsWhole, IsBroken}
 use Rattle.savi_history.specs.Turns.{Turn, Arrives, Ends, turns}
@@ -20,7 +21,6 @@ use Rattle.port_worker.specs.Inputs.{IsReadAhead, IsLooked, IsReadAs, IsSoundAhe
 use Rattle.port_worker.specs.PortTurns.{ahead_passed}
 use Rattle.port_worker.specs.Replays.{IsUnread}
 use Rattle.port_worker.specs.Served.{AreInput, IsInputOf}
-use Rattle.port_worker.proofs.FaultCounts.{rose_later, rose_before}
 use Rattle.port_worker.proofs.Fitting.{IsNear, done_apart, near_more, same_turn, whole_at}
 use Rattle.port_worker.proofs.Joining.{front_none, takes_twice, read_behind}
 use Rattle.learn_run.specs.Learning.{IsHeard}
@@ -48,7 +48,7 @@ pub record Hears {S K C : Type 0} (left : S → Option (List ℕ)) (faults : S �
   pub gave : List ℕ
   pub takes : Takes (left old.ends.source) (left new.ends.source) gave
   pub fits : FitsAhead old.reader new.reader gave new.buf (left old.ends.source) (left new.ends.source) came ending new.ahead
-  pub near : IsNear old.reader new.reader gave ending new.ahead
+  pub near : IsNear old.reader new.reader gave (left new.ends.source) ending new.ahead
   pub sound : IsSoundAhead new.reader new.ahead
   pub port : new.port ≡ old.port
   pub sink : new.ends.sink ≡ old.ends.sink
@@ -69,7 +69,7 @@ hears_start left faults p unread = record {
   gave = [];
   takes = sym (front_none (left p.ends.source));
   fits = rw unread.0 (refl, λ seen rest later ending comes. comes);
-  near = subst (λ (a : Ahead). IsNear p.reader p.reader [] None a) (sym unread.0) (omega arith);
+  near = subst (λ (a : Ahead). IsNear p.reader p.reader [] (left p.ends.source) None a) (sym unread.0) (omega arith);
   sound = rw unread.0 unread.1;
   port = refl;
   sink = refl;
@@ -103,11 +103,15 @@ hears_known {S} {K} {C} left faults first old new taken a is known same h = subs
 unread_apart : (a : Ahead) → a ≡ ahead.Unread → a ≢ ahead.Failed
 unread_apart a unread failed = cc
 
+none_ending : (e : Option How) → e ≡ None → e ≢ Some hows.Failed
+none_ending e none some = cc
+
 look_at : {S K C : Type 0} (left : S → Option (List ℕ)) (faults : S → ℕ) (first old new : PortEnds S K C) (taken : List Turn) (a : Ahead) → old.ahead ≡ a → IsLooked left faults old new → Hears left faults first old taken → Hears left faults first new taken
 look_at left faults first old new taken ahead.Unread is looked h =
     let more = looked.read is in
     let fits : FitsAhead first.reader old.reader h.gave old.buf (left first.ends.source) (left old.ends.source) h.came h.ending ahead.Unread =
     subst (λ (b : Ahead). FitsAhead first.reader old.reader h.gave old.buf (left first.ends.source) (left old.ends.source) h.came h.ending b) is h.fits in
+    let goes_on : h.ending ≢ Some hows.Failed = none_ending h.ending fits.0 in
     record {
       came = h.came;
       ending = h.ending;
@@ -116,14 +120,15 @@ look_at left faults first old new taken ahead.Unread is looked h =
       takes = takes_twice (left first.ends.source) (left old.ends.source) (left new.ends.source) h.gave more.0 h.takes more.1;
       fits = read_more first.reader old.reader new.reader h.gave more.0 new.buf h.came h.ending (left first.ends.source) (left old.ends.source) (left new.ends.source) new.ahead h.takes more.1 fits.0 fits.1 more.2;
       near = near_more first.reader old.reader new.reader h.gave more.0 new.buf (left new.ends.source) h.ending new.ahead
-          (subst (λ (b : Ahead). IsNear first.reader old.reader h.gave h.ending b) is h.near) more.2;
+          (subst (λ (b : Ahead). IsNear first.reader old.reader h.gave (left old.ends.source) h.ending b) is h.near) more.2;
       sound = looked.sound;
       port = looked.port ∙ h.port;
       sink = looked.sink ∙ h.sink;
       clock = looked.clock ∙ h.clock;
       later = omega (arith, h.later, looked.later);
-      failed = λ failed. rose_later (faults first.ends.source) (faults old.ends.source) (faults new.ends.source) h.later (looked.failed is failed);
-      broken = λ ended_so. rose_before (faults first.ends.source) (faults old.ends.source) (faults new.ends.source) (h.broken ended_so) looked.later;
+      failed = λ failed.
+          rose_since (faults first.ends.source) (faults old.ends.source) (faults new.ends.source) (h.still (unread_apart old.ahead is) goes_on) (looked.failed is failed);
+      broken = λ ended_so. absurd (goes_on ended_so);
       still = λ other others. looked.still other ∙ h.still (unread_apart old.ahead is) others;
     }
 look_at left faults first old new taken (ahead.Frame stamp len) is looked h = hears_known left faults first old new taken (ahead.Frame stamp len) is tt looked.same h
@@ -146,9 +151,6 @@ same_ending how at is = cc
 
 same_place : (one other : ℕ) → hows.Malformed one ≡ hows.Malformed other → one ≡ other
 same_place one other is = cc
-
-none_ending : (e : Option How) → e ≡ None → e ≢ Some hows.Failed
-none_ending e none some = cc
 
 module _ {S K C : Type 0} (left : S → Option (List ℕ)) (faults : S → ℕ) (first old : PortEnds S K C) (taken : List Turn) (turn : Turn) (h : Hears left faults first old taken) where
   abbrev passed : Ahead → PortEnds S K C
@@ -192,7 +194,7 @@ module _ {S K C : Type 0} (left : S → Option (List ℕ)) (faults : S → ℕ) 
       ∙ ap (λ (l : List Turn). l ++ turn ∷ []) (append-nil (map (λ a. Arrives first.port a) h.came))
       ∙ ap (λ (t : Turn). map (λ a. Arrives first.port a) h.came ++ t ∷ []) (is ∙ ap (λ (p : Port). Ends (Ingress p) how) h.port)
 
-  ending_passed : (how : How) → turn ≡ Ends (Ingress old.port) how → h.ending ≡ None → IsInputOf (Comes first.reader) (left first.ends.source) (left old.ends.source) (Some how) h.came how → ((at : ℕ) → how ≡ hows.Malformed at → length h.gave ≤ at + longest_record) → (how ≡ hows.Failed → old.ahead ≡ ahead.Failed) → (old.ahead ≡ ahead.Failed → how ≡ hows.Failed)
+  ending_passed : (how : How) → turn ≡ Ends (Ingress old.port) how → h.ending ≡ None → IsInputOf (Comes first.reader) (left first.ends.source) (left old.ends.source) (Some how) h.came how → ((at : ℕ) → how ≡ hows.Malformed at → IsNearFault at (length h.gave) (left old.ends.source)) → (how ≡ hows.Failed → old.ahead ≡ ahead.Failed) → (old.ahead ≡ ahead.Failed → how ≡ hows.Failed)
       → Hears left faults first (passed ahead.Done) (taken ++ turn ∷ [])
   ending_passed how is none whole few fails failing = record {
     came = h.came;
@@ -216,7 +218,7 @@ module _ {S K C : Type 0} (left : S → Option (List ℕ)) (faults : S → ℕ) 
   FitsSo a = FitsAhead first.reader old.reader h.gave old.buf (left first.ends.source) (left old.ends.source) h.came h.ending a
 
   abbrev NearSo : Ahead → Type 0
-  NearSo a = IsNear first.reader old.reader h.gave h.ending a
+  NearSo a = IsNear first.reader old.reader h.gave (left old.ends.source) h.ending a
 
   pass_at : (a : Ahead) → old.ahead ≡ a → turn_ahead old.port old.buf a ≡ Some turn → Hears left faults first (passed (ahead_passed a)) (taken ++ turn ∷ [])
   pass_at ahead.Unread a_is is = cc
@@ -235,8 +237,8 @@ module _ {S K C : Type 0} (left : S → Option (List ℕ)) (faults : S → ℕ) 
       ending_passed hows.End (same_turn (Ends (Ingress old.port) hows.End) turn is) fits.0 fits.1 (λ at same. cc) (λ failed. cc) (λ failed. let e : ahead.End ≡ ahead.Failed = sym a_is ∙ failed in cc)
   pass_at (ahead.Malformed at) a_is is =
       let fits : FitsSo (ahead.Malformed at) = subst (λ (b : Ahead). FitsSo b) a_is h.fits in
-      let near : length h.gave ≤ at + longest_record = subst (λ (b : Ahead). NearSo b) a_is h.near in
-      ending_passed (hows.Malformed at) (same_turn (Ends (Ingress old.port) (hows.Malformed at)) turn is) fits.0 fits.1 (λ place same. let e = same_place at place same in omega (arith, near, e)) (λ failed. cc) (λ failed. let e : ahead.Malformed at ≡ ahead.Failed = sym a_is ∙ failed in cc)
+      let near : IsNearFault at (length h.gave) (left old.ends.source) = subst (λ (b : Ahead). NearSo b) a_is h.near in
+      ending_passed (hows.Malformed at) (same_turn (Ends (Ingress old.port) (hows.Malformed at)) turn is) fits.0 fits.1 (λ place same. subst (λ (n : ℕ). IsNearFault n (length h.gave) (left old.ends.source)) (same_place at place same) near) (λ failed. cc) (λ failed. let e : ahead.Malformed at ≡ ahead.Failed = sym a_is ∙ failed in cc)
   pass_at ahead.Failed a_is is =
       let fits : FitsSo ahead.Failed = subst (λ (b : Ahead). FitsSo b) a_is h.fits in
       ending_passed hows.Failed (same_turn (Ends (Ingress old.port) hows.Failed) turn is) fits.0 (refl, fits.1) (λ at same. cc) (λ failed. a_is) (λ failed. refl)
@@ -266,7 +268,7 @@ module _ {S K C : Type 0} (left : S → Option (List ℕ)) (faults : S → ℕ) 
   heard = subst (λ (i : Input). IsHeard left faults (Comes first.reader) i first.ends old.ends) (sym input_is) (record {
     gave = fits_done.2;
     takes = (h.gave, h.takes);
-    near = λ at malformed. (h.gave, h.takes, subst (λ (a : Ahead). IsNear first.reader old.reader h.gave h.ending a) done h.near at (fits_done.1 ∙ ap (λ (w : How). Some w) malformed));
+    near = λ at malformed. (h.gave, h.takes, subst (λ (a : Ahead). IsNear first.reader old.reader h.gave (left old.ends.source) h.ending a) done h.near at (fits_done.1 ∙ ap (λ (w : How). Some w) malformed));
     sink = h.sink;
     clock = h.clock;
     later = h.later;

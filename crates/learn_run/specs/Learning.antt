@@ -1,5 +1,5 @@
 -- What learning from the inputs of ports was to their ends, and to the sink that took its text.
-use Rattle.std.specs.Prelude.{◌≡◌, ◌≢◌, ℕ, ◌+◌, ◌<◌, ◌≤◌, Bool, List, length, slice_index, slice_index_or, Option, Some}
+use Rattle.std.specs.Prelude.{◌≡◌, ◌≢◌, ℕ, ◌<◌, ◌≤◌, Bool, List, length, slice_index, slice_index_or, Option, Some}
 use Rattle.savi_kinds.specs.declared.plan.Plan.{Plan}
 use Rattle.savi_kinds.specs.declared.entry.How.TheVariants as hows
 use Rattle.savi_kinds.specs.Arrivals.{Input}
@@ -8,21 +8,21 @@ use Rattle.savi_ends.specs.declared.sink.Put.{Put}
 use Rattle.savi_ends.specs.declared.world.Ends.{Ends}
 use Rattle.savi_ends.specs.Faults.{Rose}
 use Rattle.savi_ends.specs.Octets.{Takes}
-use Rattle.pcap_io.specs.Readers.{Comes, longest_record}
+use Rattle.pcap_io.specs.Readers.{Comes}
 use Rattle.port_worker.specs.declared.port_ends.PortEnds.{PortEnds}
 use Rattle.port_worker.specs.Served.{IsInputOf}
-use Rattle.port_worker.specs.Used.{GaveFew}
+use Rattle.port_worker.specs.Used.{GaveNear}
 use Rattle.ra_learn.specs.Reports.{Wrote}
 use Rattle.learn_run.specs.declared.learning.Ending.{Ending}
 use Rattle.learn_run.specs.Turns.{endings_of, learned_text, turns_in_order}
 
 -- What an input was to the ends of its port. The octets of the source are the input, up to the read that failed where one
 -- did; that was a fault of this source, and there was no other. From a place at fault on the source gave up no more than one
--- record may have. The sink and the clock weren't touched.
+-- record may have, and where octets are left no more than its front. The sink and the clock weren't touched.
 pub record IsHeard {S K C : Type 0} (left : S → Option (List ℕ)) (faults : S → ℕ) (Arrives : Bool → List ℕ → Input → Type 0) (input : Input) (old new : Ends S K C) : Type 0 where
   pub gave : IsInputOf Arrives (left old.source) (left new.source) (Some input.ending) input.arrivals input.ending
   pub takes : (octets : List ℕ) × Takes (left old.source) (left new.source) octets
-  pub near : (at : ℕ) → input.ending ≡ hows.Malformed at → GaveFew (left old.source) (left new.source) (at + longest_record)
+  pub near : (at : ℕ) → input.ending ≡ hows.Malformed at → GaveNear (left old.source) (left new.source) at
   pub sink : new.sink ≡ old.sink
   pub clock : new.clock ≡ old.clock
   pub later : faults old.source ≤ faults new.source

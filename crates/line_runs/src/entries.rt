@@ -1,7 +1,7 @@
 //! The lines of entries.
 
 use arrayvec::ArrayVec;
-use hist_store::{put_line, read_line};
+use hist_store::{JournalLine, put_line, read_line};
 use std::alloc::Global;
 
 /// Prints the number, the entry and the octets that a line says, and whether the line is the one that is written of them;
@@ -16,7 +16,7 @@ pub fn print_entry(rt: &impl Print, alloc: Global, text: &str) -> anyhow::Result
     println!(rt; "  {number} {entry:?}")?;
     let digits = hex::encode(alloc, octets.as_slice())?;
     println!(rt; "  octets [{digits}]")?;
-    let mut line = ArrayVec::new();
+    let mut line = JournalLine::new();
     put_line(number, &entry, octets.as_slice(), &mut line);
     let same = line.as_slice() == text.as_bytes();
     println!(rt; "  written again: {same}")?;

@@ -6,7 +6,7 @@ ghost use Rattle.hist_store.specs.LineTexts.{FitsLine};
 
 use anyhow::bail;
 use arrayvec::ArrayVec;
-use hist_store::{Hist, put_end, put_line, read_line};
+use hist_store::{Hist, JournalLine, put_end, put_line, read_line};
 use savi_kinds::{Act, Entry};
 use std::alloc::Global;
 
@@ -50,7 +50,7 @@ fn keep(rt: &impl Print, hist: &mut Hist, entry: &Entry, octets: &[u8]) -> anyho
     ensures octets { hist.new.byte_room ≡ hist.old.byte_room }
 {
     let entry = placed(entry, hist.held());
-    let mut line = ArrayVec::new();
+    let mut line = JournalLine::new();
     put_line(hist.len(), &entry, octets, &mut line);
     hist.append(entry, octets);
     print_text(rt, line.as_slice())
@@ -87,7 +87,7 @@ fn print_rows(rt: &impl Print, alloc: Global, hist: &Hist) -> anyhow::Result<()>
         println!(rt; "  {n} {:?}", hist.entry(n))?;
         println!(rt; "  octets [{digits}]")?;
     }
-    let mut end = ArrayVec::new();
+    let mut end = JournalLine::new();
     put_end(hist.len(), &mut end);
     print_text(rt, end.as_slice())
 }

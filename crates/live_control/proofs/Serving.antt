@@ -7,6 +7,7 @@ use Rattle.savi_kinds.specs.declared.plan.Plan.{Plan}
 use Rattle.savi_kinds.specs.declared.entry.How.{How}
 use Rattle.savi_kinds.specs.declared.entry.How.TheVariants as hows
 use Rattle.savi_ends.specs.Octets.{IsFront, behind}
+use Rattle.savi_ends.proofs.FaultCounts.{rose_since}
 use Rattle.savi_ends.proofs.Octets.{behind_again}
 use Rattle.cli_lang.specs.Arrivals.{Line}
 use Rattle.hist_store.specs.Rows.{Row}
@@ -21,7 +22,7 @@ use Rattle.control_reader.specs.Answered.{AnswersSo, waiting_line}
 use Rattle.control_reader.specs.Heard.{HeardLine, Said, Ended, all_said, reason_of}
 use Rattle.control_reader.specs.declared.arrival.LinesEnd.{LinesEnd}
 use Rattle.control_reader.specs.declared.arrival.LinesEnd.TheVariants as ends
-use Rattle.control_reader.proofs.Going.{not_before, rose_later, said_more}
+use Rattle.control_reader.proofs.Going.{not_before, said_more}
 use Rattle.live_session.specs.Standing.{ControlStands, NoControlStands, Replies, RepliesOr}
 use Rattle.live_control.specs.LineTurns.{EndsControl, IsAnswered, TellsSameLines}
 use Rattle.live_control.specs.Sides.{ControlGoes}
@@ -145,7 +146,7 @@ module _ {K : Type 0} (written : K → Option (List ℕ)) (faults : K → ℕ) (
               subst (λ (e : Option How). FitsReplies (written first) (written new) (replies_in plan is) e) (sym end)
                   (subst (λ (texts : List (List ℕ)). IsUnwritten (written first) (written new) texts) (sym (replies_more answered.reply answered.replied)) front),
               not_before (faults first) (faults old) (faults new) goes.replied.still answered.later,
-              rose_later (faults first) (faults old) (faults new) goes.replied.still answered.took.3,
+              rose_since (faults first) (faults old) (faults new) goes.replied.still answered.took.3,
             );
           }
       line_last hows.End answered = absurd answered.took

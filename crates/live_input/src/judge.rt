@@ -17,7 +17,7 @@ ghost use Rattle.live_input.specs.Judged.{InputGoes, JudgesOne, StandsAs, has_st
 use crate::entering::{enter_arrival, enter_ending, look_for_room};
 use crate::state::InputState;
 use core_keep::KeptCore;
-use frame_class::seen;
+use frame_class::{Seen, see};
 use live_turns::{Gate, PauseSignal, Turns};
 use parcel_ring::{Arrival, Parcel, ParcelTaker};
 use savi_core::Event;
@@ -167,7 +167,8 @@ fn judge_one<R: Wait, G: Gate>(
 {
     match came {
         Arrival::Frame { stamp, octets } => {
-            let seen = seen(octets);
+            let mut seen = Seen::nothing();
+            see(octets, &mut seen);
             let frame = Event::Frame {
                 port,
                 stamp,

@@ -19,7 +19,7 @@ ghost use Rattle.live_input.specs.Judged.{JudgesOne, kept_of};
 use crate::judge::Ingress;
 use crate::state::InputState;
 use core_keep::KeptCore;
-use frame_class::seen;
+use frame_class::{Seen, see};
 use live_turns::{end_pass, enter_frame, pause_if_full};
 use parcel_ring::{Arrival, Parcel};
 use savi_core::Event;
@@ -80,7 +80,8 @@ fn judge_now(core: &mut KeptCore, port: Port, came: Arrival<'_>) -> InputState
 {
     match came {
         Arrival::Frame { stamp, octets } => {
-            let seen = seen(octets);
+            let mut seen = Seen::nothing();
+            see(octets, &mut seen);
             let frame = Event::Frame {
                 port,
                 stamp,

@@ -223,7 +223,7 @@ port_row = (
     record {
       gave = (stream, refl);
       fits = stream_is;
-      near = λ at same. omega arith;
+      near = λ at same. (omega arith, λ some. omega arith);
       stamped = ([], refl, refl);
       later = lit≤ tt;
       broken = λ same. let never : hows.End ≡ hows.Failed = same in absurd cc;

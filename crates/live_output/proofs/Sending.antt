@@ -12,6 +12,7 @@ use Rattle.savi_kinds.specs.declared.entry.How.TheVariants as hows
 use Rattle.savi_kinds.specs.Ports.{number_of}
 use Rattle.savi_ends.specs.declared.sink.Put.TheVariants as put
 use Rattle.savi_ends.specs.Faults.{Rose}
+use Rattle.savi_ends.proofs.FaultCounts.{rose_since}
 use Rattle.savi_ends.specs.Octets.{behind, IsFront}
 use Rattle.savi_ends.specs.Writes.{Extends}
 use Rattle.savi_ends.proofs.Octets.{behind_again}
@@ -201,7 +202,7 @@ module _ {K : Type 0} (written : K → Option (List ℕ)) (faults : K → ℕ) (
       fails_by found now true new (so_far ++ failed.0) (took_more found begun old new failed.0 sending failed.2)
       (failed.1.0, sym (begun_text found begun sending.writes.unbegun) ∙ ap (λ (l : List ℕ). so_far ++ l) failed.1.1 ∙ sym (append_assoc so_far failed.0 failed.1.0))
       (so_far ++ failed.0, ap (λ (l : List ℕ). l ++ (so_far ++ failed.0)) (sym (sending.writes.unsure not_begun)))
-      (omega (arith, sending.writes.still, rose)) (omega (arith, sending.writes.still, later)) made
+      (rose_since (faults first) (faults old) (faults new) sending.writes.still rose) (omega (arith, sending.writes.still, later)) made
 
   -- a turn that took all that waited
   module _ (found : List Row) (batch : List Item) (now : List Row) (all : batch ≡ queue plan base number found) (made : now ≡ with_event plan base found (Drain port (length batch))) where
@@ -251,4 +252,4 @@ module _ {K : Type 0} (written : K → Option (List ℕ)) (faults : K → ℕ) (
         fails_by last end true new octets (took_more found true old new failed.0 sending failed.2)
         (subst (λ (l : List Item). IsFront octets (output_text format l)) same.items front)
         (subst (λ (l : List ℕ). IsFront l octets) same.sure firm)
-        (omega (arith, sending.writes.still, rose)) (omega (arith, sending.writes.still, later)) ended
+        (rose_since (faults first) (faults old) (faults new) sending.writes.still rose) (omega (arith, sending.writes.still, later)) ended

@@ -5,7 +5,7 @@ use Rattle.savi_kinds.specs.declared.entry.How.TheVariants as how
 use Rattle.pcap_io.specs.declared.kind.HeaderKind.{HeaderKind}
 use Rattle.pcap_io.specs.Records.{captured_of}
 use Rattle.pcap_io.specs.Runs.{IsAtFault, IsCut, ended}
-use Rattle.pcap_io.specs.Readers.{Running, Ended, Comes, HasEnded, HasFailed, longest_record}
+use Rattle.pcap_io.specs.Readers.{Running, Ended, Comes, HasEnded, HasFailed, IsNearFault, longest_record, longest_front}
 use Rattle.pcap_io.proofs.Fronts.{captured_of-append}
 
 -- what holds of what was taken holds of the whole where nothing is left
@@ -23,9 +23,11 @@ pub cut_is_malformed : (kind : HeaderKind) (place : ℕ) (octets : List ℕ) →
 cut_is_malformed kind place octets some cut =
     (refl, inr (refl, λ none. absurd (omega (arith, ap length none)), cut))
 
--- no more was read than a record has
-near_of : (place at : ℕ) (gave : List ℕ) → length gave ≤ longest_record → how.Malformed place ≡ how.Malformed at → place + length gave ≤ at + longest_record
-near_of place at gave few same = let e : place ≡ at = cc in omega (arith, few, e)
+-- no more was read than a record has, and no more than its front, or nothing is left
+near_of : (place at : ℕ) (gave : List ℕ) (left : Option (List ℕ)) → length gave ≤ longest_record → (¬ NothingLeft left → length gave ≤ longest_front) → how.Malformed place ≡ how.Malformed at → IsNearFault at (place + length gave) left
+near_of place at gave left few fewer same =
+    let e : place ≡ at = cc in
+    (omega (arith, few, e), λ some. let front = fewer some in omega (arith, front, e))
 
 pub ended_cut : (kind : HeaderKind) (place : ℕ) (gave : List ℕ) (left : Option (List ℕ)) → 0 < length gave → IsCut kind gave → length gave ≤ longest_record → NothingLeft left → HasEnded (Running kind place) (Ended (how.Malformed place)) gave left (how.Malformed place)
 ended_cut kind place gave left some cut few nothing =
@@ -34,7 +36,7 @@ ended_cut kind place gave left some cut few nothing =
       state = refl;
       taken = malformed;
       whole = if_nothing_left (λ octets. Comes (Running kind place) true octets (ended (how.Malformed place))) gave left nothing malformed;
-      near = λ at same. near_of place at gave few same;
+      near = λ at same. near_of place at gave left few (λ some. absurd (some nothing)) same;
     }
 
 pub failed_cut : (kind : HeaderKind) (place : ℕ) (gave : List ℕ) → IsCut kind gave → (IsAtFault kind place gave → ⊥) → HasFailed (Running kind place) (Ended how.Failed) gave
@@ -63,5 +65,5 @@ ended_front kind place front left size fault =
       state = refl;
       taken = rw append-nil at (any []);
       whole = whatever_left P front left any;
-      near = λ at same. near_of place at front (omega (arith, size)) same;
+      near = λ at same. near_of place at front left (omega (arith, size)) (λ some. omega (arith, size)) same;
     }

@@ -27,7 +27,7 @@ ended_in_header kinds gave left cut nothing = record {
   state = refl;
   taken = cut_header kinds gave cut;
   whole = if_nothing_left (λ octets. Arrive kinds true octets (ended (how.Malformed 0))) gave left nothing (cut_header kinds gave cut);
-  near = λ at same. omega (arith, cut);
+  near = λ at same. (omega (arith, cut), λ some. absurd (some nothing));
 }
 
 pub failed_in_header : (kinds : List HeaderKind) (gave : List ℕ) → length gave < 24 → HasFailed (Fresh kinds) (Ended how.Failed) gave
@@ -49,7 +49,7 @@ ended_at_header kinds header left size none =
       state = refl;
       taken = rw append-nil at (any []);
       whole = whatever_left P header left any;
-      near = λ at same. omega (arith, size);
+      near = λ at same. (omega (arith, size), λ some. omega (arith, size));
     }
 
 -- what comes behind a header
@@ -76,7 +76,11 @@ ended_behind kinds kind new header gave left ending accepted is one = record {
   state = one.state;
   taken = behind_header kinds kind true header gave (ended ending) accepted is one.taken;
   whole = whole_behind left one.whole;
-  near = λ at same. let behind = one.near at same in omega (arith, behind, length-append header gave, is.size);
+  near = λ at same.
+      let behind = one.near at same in (
+        omega (arith, behind.0, length-append header gave, is.size),
+        λ some. let front = behind.1 some in omega (arith, front, length-append header gave, is.size),
+      );
 }
   where
     whole_behind : (left : Option (List ℕ)) → IfSome left (λ rest. Comes (Running kind 24) true (gave ++ rest) (ended ending)) → IfSome left (λ rest. Comes (Fresh kinds) true ((header ++ gave) ++ rest) (ended ending))

@@ -5,6 +5,7 @@ use Rattle.savi_kinds.specs.declared.entry.How.TheVariants as how
 use Rattle.savi_kinds.specs.declared.arrival.Next.{Next}
 use Rattle.savi_kinds.specs.declared.arrival.Next.TheVariants as next
 use Rattle.savi_kinds.specs.Arrivals.{Arrival, Frame, Long, Input}
+use Rattle.savi_ends.specs.Octets.{NothingLeft}
 use Rattle.pcap_io.specs.declared.kind.HeaderKind.{HeaderKind}
 use Rattle.pcap_io.specs.Runs.{IsRun, Arrive, ended}
 
@@ -33,9 +34,18 @@ record_place (Ended ending) = 0
 abbrev pub longest_record : ℕ
 longest_record = 16 + 262144
 
+-- the octets of the longest front, by which it is known at fault: the header of a capture, or that of a record
+abbrev pub longest_front : ℕ
+longest_front = 24
+
 -- the state holds no place past 2^62
 abbrev pub IsPlaced : State → Type 0
 IsPlaced state = record_place state ≤ 2 ^ 62
+
+-- So many octets were read of an input that is at fault at this place: no more than up to the end of the longest record
+-- there, and no more than up to the end of its front where octets are left. Else what is there was cut short.
+abbrev pub IsNearFault : ℕ → ℕ → Option (List ℕ) → Type 0
+IsNearFault at read left = (read ≤ at + longest_record) × (¬ NothingLeft left → read ≤ at + longest_front)
 
 -- From the first state to the second one these octets were taken and gave these arrivals: whatever comes
 -- behind them, they come before it.
@@ -54,12 +64,12 @@ pub record HasReadOne (old new : State) (gave : List ℕ) (arrival : Arrival) : 
 
 -- Nothing comes any more, and the input ends so: what was taken, alone and with what is left behind it,
 -- where that is told, is no arrival and this ending. From a place at fault on no more was read than the
--- longest record has.
+-- longest record has, and where octets are left no more than the front that is at fault.
 pub record HasEnded (old new : State) (gave : List ℕ) (left : Option (List ℕ)) (ending : How) : Type 0 where
   pub state : new ≡ Ended ending
   pub taken : Comes old true gave (ended ending)
   pub whole : IfSome left (λ rest. Comes old true (gave ++ rest) (ended ending))
-  pub near : (at : ℕ) → ending ≡ how.Malformed at → record_place old + length gave ≤ at + longest_record
+  pub near : (at : ℕ) → ending ≡ how.Malformed at → IsNearFault at (record_place old + length gave) left
 
 -- A read failed: what was taken for this answer is no whole arrival, nor one that is at fault.
 pub record HasFailed (old new : State) (gave : List ℕ) : Type 0 where

@@ -1,4 +1,4 @@
-ghost use Rattle.std.specs.Prelude.{◌≡◌, ◌≢◌, ◌≤◌, ◌^◌, ℕ, List, [], ◌∷◌, IfSome};
+ghost use Rattle.std.specs.Prelude.{◌≡◌, ◌≢◌, ◌≤◌, ◌^◌, ℕ, List, [], ◌∷◌, take, IfSome};
 ghost use Rattle.savi_ends.specs.Octets.{Takes};
 ghost use Rattle.savi_ends.specs.Faults.{Rose};
 
@@ -15,6 +15,8 @@ use std::marker::Model;
 #[derive(Drop)]
 pub struct PcapReader {
     state: State,
+    // what of a record was read: only a whole frame goes into the caller's buffer
+    room: [u8; FRAME_OCTETS_MOST],
 }
 
 // What a reader is ready for.
@@ -54,6 +56,7 @@ impl PcapReader {
     {
         PcapReader {
             state: State::Fresh { only: None },
+            room: [0; FRAME_OCTETS_MOST],
         }
     }
 
@@ -63,6 +66,7 @@ impl PcapReader {
     {
         PcapReader {
             state: State::Fresh { only: Some(kind) },
+            room: [0; FRAME_OCTETS_MOST],
         }
     }
 
@@ -73,9 +77,10 @@ impl PcapReader {
     /// header or record that is at fault: a header cut short or of another kind, version or link type, a
     /// record cut short, of more than 262,144 captured octets, or that ends past place 2^62. `Failed`
     /// comes only where a read failed in this call. After `End`, `Malformed` or `Failed` the reader reads
-    /// nothing and answers the same again. The clock isn't read.
+    /// nothing and answers the same again. The clock isn't read. Where the answer isn't a `Frame` the buffer
+    /// stays as it was.
     ///
-    /// O(n) in the octets of the record.
+    /// O(n) in the octets of the record, those of a frame copied once.
     pub fn next<S: Source, C: Clock>(
         &mut self,
         source: &mut S,
@@ -85,7 +90,7 @@ impl PcapReader {
         ensures later { S.faults source.old ≤ S.faults source.new }
         ensures cause { result ≡ Next.Failed → self.old ≢ Ended how.Failed → Rose (S.faults source.old) (S.faults source.new) }
         ensures still { result ≢ Next.Failed → S.faults source.new ≡ S.faults source.old }
-        ensures kept { result ≡ Next.End → buf.new ≡ buf.old }
+        ensures kept { ((stamp len : ℕ) → result ≢ Next.Frame stamp len) → buf.new ≡ buf.old }
 
         // There are octets that the source gave in this call, and the answer is what they are.
         ensures octets { (gave : List ℕ) × Takes (S.left source.old) (S.left source.new) gave × Answers self.old self.new gave buf.new (S.left source.new) result }
@@ -126,11 +131,12 @@ impl PcapReader {
         ensures later { S.faults source.old ≤ S.faults source.new }
         ensures cause { result ≡ Next.Failed → Rose (S.faults source.old) (S.faults source.new) }
         ensures still { result ≢ Next.Failed → S.faults source.new ≡ S.faults source.old }
-        ensures kept { result ≡ Next.End → buf.new ≡ buf.old }
+        ensures kept { ((stamp len : ℕ) → result ≢ Next.Frame stamp len) → buf.new ≡ buf.old }
         ensures octets { (gave : List ℕ) × Takes (S.left source.old) (S.left source.new) gave × Answers (Running kind place) self.new gave buf.new (S.left source.new) result }
         ensures placed { IsPlaced self.new }
     {
-        let answer = read_record(source, kind, place, buf);
+        let answer = read_record(source, kind, place, &mut self.room);
+        copy_frame(answer, &self.room, buf);
         self.state = State::behind(kind, place, answer);
         answer
     }
@@ -156,5 +162,17 @@ impl State {
             Next::Malformed { at } => State::Malformed { at },
             Next::Failed => State::Failed,
         }
+    }
+}
+
+// Copies the octets of a frame; where the answer isn't one the buffer stays as it was.
+fn copy_frame(answer: Next, room: &[u8; FRAME_OCTETS_MOST], buf: &mut [u8; FRAME_OCTETS_MOST])
+    requires { (stamp len : ℕ) → answer ≡ Next.Frame stamp len → len ≤ 1518 }
+    ensures frame { (stamp len : ℕ) → answer ≡ Next.Frame stamp len → take len buf.new ≡ take len room.now }
+    ensures kept { ((stamp len : ℕ) → answer ≢ Next.Frame stamp len) → buf.new ≡ buf.old }
+{
+    if let Next::Frame { stamp: _, len } = answer {
+        let len = len as usize;
+        buf[..len].copy_from_slice(&room[..len]);
     }
 }

@@ -18,7 +18,7 @@ const CAPTURED_OCTETS_MOST: u32 = 262_144;
 /// No record ends past this place of its input: 2^62.
 const LAST_PLACE: u64 = 1 << 62;
 
-// Reads the record that begins at this place.
+// Reads the record that begins at this place; the buffer is room for its octets, of which it holds a frame's.
 pub(crate) fn read_record<S: Source>(
     source: &mut S,
     kind: HeaderKind,
@@ -29,7 +29,6 @@ pub(crate) fn read_record<S: Source>(
     ensures later { S.faults source.old ≤ S.faults source.new }
     ensures cause { result ≡ Next.Failed → Rose (S.faults source.old) (S.faults source.new) }
     ensures still { result ≢ Next.Failed → S.faults source.new ≡ S.faults source.old }
-    ensures kept { result ≡ Next.End → buf.new ≡ buf.old }
     ensures octets { (gave : List ℕ) × Takes (S.left source.old) (S.left source.new) gave × Answers (Running kind place) (state_after kind place result) gave buf.new (S.left source.new) result }
 {
     let mut head = [0; RECORD_HEADER_OCTETS];

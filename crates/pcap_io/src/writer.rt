@@ -1,4 +1,4 @@
-ghost use Rattle.std.specs.Prelude.{◌≡◌, ◌+◌, ◌≤◌, ◌++◌, length};
+ghost use Rattle.std.specs.Prelude.{◌≡◌, ◌+◌, ◌≤◌, [], ◌++◌, length};
 ghost use Rattle.arrayvec.specs.ArrayVec.{array_vec_len};
 ghost use Rattle.savi_ends.specs.Faults.{Rose};
 ghost use Rattle.savi_ends.specs.Writes.{Extends};
@@ -44,25 +44,25 @@ pub fn put<K: Sink>(sink: &mut K, moment: u64, frame: &[u8]) -> Put
     ensures cause { result ≡ Put.Failed → Rose (K.faults sink.old) (K.faults sink.new) }
     ensures still { result ≡ Put.Done → K.faults sink.new ≡ K.faults sink.old }
 {
-    let record = record_of(moment, frame);
+    let mut record = ArrayVec::new();
+    put_record(moment, frame, &mut record);
     sink.write(record.as_slice())
 }
 
-// The octets of the record of a frame.
-fn record_of(moment: u64, frame: &[u8]) -> ArrayVec<u8, RECORD_OCTETS_MOST>
-    requires { length frame.now ≤ FRAME_OCTETS_OUT_MOST }
-    ensures { result.items ≡ record_text moment frame.now }
+// Puts the octets of the record of a frame into an empty buffer: where it is made it stays.
+fn put_record(moment: u64, frame: &[u8], into: &mut ArrayVec<u8, RECORD_OCTETS_MOST>)
+    requires empty { into.old.items ≡ [] }
+    requires short { length frame.now ≤ FRAME_OCTETS_OUT_MOST }
+    ensures { into.new.items ≡ record_text moment frame.now }
 {
     let seconds = (moment / MS_PER_SECOND % SECONDS_END) as u32;
     let microseconds = (1_000 * (moment % MS_PER_SECOND)) as u32;
     let len = (frame.len() as u32).to_le_bytes();
-    let mut text = ArrayVec::new();
-    add(&mut text, &seconds.to_le_bytes());
-    add(&mut text, &microseconds.to_le_bytes());
-    add(&mut text, &len);
-    add(&mut text, &len);
-    add(&mut text, frame);
-    text
+    add(into, &seconds.to_le_bytes());
+    add(into, &microseconds.to_le_bytes());
+    add(into, &len);
+    add(into, &len);
+    add(into, frame);
 }
 
 // Adds octets for which there is room.

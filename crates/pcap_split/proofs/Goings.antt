@@ -3,7 +3,7 @@ use Rattle.std.proofs.Common.{◌≡◌, ◌⊎◌, inl, inr, ℕ, suc, ◌+◌,
 use Rattle.savi_kinds.specs.declared.entry.How.{How}
 use Rattle.savi_kinds.specs.declared.entry.How.TheVariants as how
 use Rattle.savi_ends.specs.Octets.{behind}
-use Rattle.savi_ends.specs.Faults.{Rose}
+use Rattle.savi_ends.proofs.FaultCounts.{rose_since}
 use Rattle.savi_ends.proofs.Octets.{behind_again}
 use Rattle.pcap_io.specs.Captures.{Sent, record_text, records_text}
 use Rattle.pcapng_io.specs.declared.next.NgNext.{NgNext}
@@ -19,7 +19,7 @@ use Rattle.pcap_split.specs.Counts.{interfaces_of, tally_of, counted}
 use Rattle.pcap_split.specs.declared.split.SplitGot.{SplitGot}
 use Rattle.pcap_split.specs.declared.split.SplitGot.TheVariants as got
 use Rattle.pcap_split.specs.Steps.{MayTake, Does, DoesEvent, Rests}
-use Rattle.pcap_split.specs.Going.{Tells, Writes, split_behind, last_got, BreaksOff, IsAtBlock, HasTold, HasBroken, HasTaken, HasTakenFront, EachOutput, Differ, HasRisen, WriteRose, HasBegun}
+use Rattle.pcap_split.specs.Going.{Tells, Writes, split_behind, last_got, BreaksOff, IsAtBlock, HasTold, HasBroken, HasTaken, HasTakenBut, EachOutput, Differ, HasRisen, WriteRose, HasBegun}
 use Rattle.pcap_split.specs.States.{Splitting, IsWithin}
 
 pub tally_more : (a b : List Event) (t : Tally) → tally t (a ++ b) ≡ tally (tally t a) b
@@ -54,24 +54,21 @@ taken_more written faults a b o m n first second = record {
       ∙ ap (behind (written o.sink)) (text_more o.interface a b);
 }
 
-front_more : {K : Type 0} (written : K → Option (List ℕ)) (faults : K → ℕ) (failed : ℕ) (a b : List Event) (o m n : Output K) → HasTaken written faults a o m → HasTakenFront written faults failed b m n → HasTakenFront written faults failed (a ++ b) o n
-front_more written faults failed a b o m n first second =
-    let text = records_text (frames_of o.interface a) in
-    let front = second.text.0 in
-    let rest = second.text.1 in
-    record {
-      same = second.same ∙ first.same;
-      later = omega (arith, first.still, second.later);
-      still = λ other. second.still (λ same. other (sym first.same ∙ same)) ∙ first.still;
-      text = (
-        text ++ front,
-        (
-          rest.0,
-          sym (text_more o.interface a b) ∙ ap (λ (k : ℕ). text ++ records_text (frames_of k b)) (sym first.same) ∙ ap (λ (l : List ℕ). text ++ l) rest.1 ∙ sym (append_assoc text front rest.0),
-        ),
-        second.text.2 ∙ ap (λ (w : Option (List ℕ)). behind w front) first.text ∙ behind_again (written o.sink) text front,
-      );
-    }
+but_more : {K : Type 0} (written : K → Option (List ℕ)) (faults : K → ℕ) (failed : ℕ) (a : List Event) (stamp : ℕ) (octets : List ℕ) (o m n : Output K) → HasTaken written faults a o m → HasTakenBut written faults failed [] stamp octets m n → HasTakenBut written faults failed a stamp octets o n
+but_more written faults failed a stamp octets o m n first second = (
+  λ other. taken_more written faults a (Frame failed stamp octets ∷ []) o m n first (second.0 (λ e. other (sym first.same ∙ e))),
+  λ is.
+      let one = second.1 (first.same ∙ is) in
+      record {
+        same = one.same ∙ first.same;
+        rose = rose_since (faults o.sink) (faults m.sink) (faults n.sink) first.still one.rose;
+        text = (
+          one.text.0,
+          one.text.1,
+          one.text.2 ∙ ap (λ (w : Option (List ℕ)). behind w one.text.0) first.text ∙ behind_again (written o.sink) (records_text (frames_of o.interface a)) one.text.0,
+        );
+      },
+)
 
 pub each_taken : {K : Type 0} (written : K → Option (List ℕ)) (faults : K → ℕ) (a b : List Event) (old mid new : List (Output K)) → EachOutput (HasTaken written faults a) old mid → EachOutput (HasTaken written faults b) mid new → EachOutput (HasTaken written faults (a ++ b)) old new
 each_taken written faults a b old mid new first second = (
@@ -79,10 +76,10 @@ each_taken written faults a b old mid new first second = (
   λ k d within. taken_more written faults a b (get_or old k d) (get_or mid k d) (get_or new k d) (first.1 k d within) (second.1 k d (omega (arith, within, first.0))),
 )
 
-pub each_front : {K : Type 0} (written : K → Option (List ℕ)) (faults : K → ℕ) (failed : ℕ) (a b : List Event) (old mid new : List (Output K)) → EachOutput (HasTaken written faults a) old mid → EachOutput (HasTakenFront written faults failed b) mid new → EachOutput (HasTakenFront written faults failed (a ++ b)) old new
-each_front written faults failed a b old mid new first second = (
+pub each_but : {K : Type 0} (written : K → Option (List ℕ)) (faults : K → ℕ) (failed : ℕ) (a : List Event) (stamp : ℕ) (octets : List ℕ) (old mid new : List (Output K)) → EachOutput (HasTaken written faults a) old mid → EachOutput (HasTakenBut written faults failed [] stamp octets) mid new → EachOutput (HasTakenBut written faults failed a stamp octets) old new
+each_but written faults failed a stamp octets old mid new first second = (
   second.0 ∙ first.0,
-  λ k d within. front_more written faults failed a b (get_or old k d) (get_or mid k d) (get_or new k d) (first.1 k d within) (second.1 k d (omega (arith, within, first.0))),
+  λ k d within. but_more written faults failed a stamp octets (get_or old k d) (get_or mid k d) (get_or new k d) (first.1 k d within) (second.1 k d (omega (arith, within, first.0))),
 )
 
 -- before the first event
@@ -155,10 +152,6 @@ broken_behind first mid new gave g events on was one = record {
   taken = (one.taken.0, rw append-nil at (was g [] one.taken.0 one.taken.1));
   unread = breaks_now first mid gave g events on was one.unread;
 }
-
--- a fault later on is one since the start
-pub rose_since : (before mid after : ℕ) → before ≤ mid → Rose mid after → Rose before after
-rose_since before mid after later rose = omega (arith, later, rose)
 
 -- an answer that tells something
 abbrev pub TellsEvent : NgNext → Type 0
@@ -285,9 +278,9 @@ stop_event written faults first mid new counts0 counts counts' old outputs outpu
       events = events ++ event ∷ [];
       tells = record { read = has_read_more first mid new gave g events (event ∷ []) was.read one.read; reading = (one.reading.0, one.reading.1); place = place_more first mid new gave g event was.place one };
       begun = tt;
-      writes = each_front written faults interface events (event ∷ []) old outputs outputs' was.each does.0;
+      writes = (events, does.0, does.1, ap (λ (e : Event). events ++ e ∷ []) does.2, each_but written faults interface events does.0 does.1 old outputs outputs' was.each does.3);
       tallied_is = tally_step counts0 counts counts' (interfaces_of old) (interfaces_of old) events event was.tallied_is
-          (subst (λ (l : List ℕ). tally_of counts' l ≡ tallied (tally_of counts l) event) stay (subst (λ (l : List ℕ). tally_of counts' l ≡ tallied (tally_of counts (interfaces_of outputs)) event) (append-nil (interfaces_of outputs)) does.1.1));
+          (subst (λ (l : List ℕ). tally_of counts' l ≡ tallied (tally_of counts l) event) stay (subst (λ (l : List ℕ). tally_of counts' l ≡ tallied (tally_of counts (interfaces_of outputs)) event) (append-nil (interfaces_of outputs)) does.4.1));
     }
 stop_event written faults first mid new counts0 counts counts' old outputs outputs' gave g left events event got.End was one does = absurd does
 stop_event written faults first mid new counts0 counts counts' old outputs outputs' gave g left events event (got.Malformed at) was one does = absurd does
@@ -322,12 +315,12 @@ risen_since {K} written faults events interface old mid new each risen =
     let inside : place < length old = omega (arith, risen.1.0, each.0) in (
       place,
       (inside, λ (d : Output K). sym (each.1 place d inside).same ∙ risen.1.1 d),
-      λ (d : Output K). rose_since (faults (get_or old place d).sink) (faults (get_or mid place d).sink) (faults (get_or new place d).sink) (omega (arith, (each.1 place d inside).still)) (risen.2 d),
+      λ (d : Output K). rose_since (faults (get_or old place d).sink) (faults (get_or mid place d).sink) (faults (get_or new place d).sink) (each.1 place d inside).still (risen.2 d),
     )
 
 event_rose : {K : Type 0} (written : K → Option (List ℕ)) (faults : K → ℕ) (event : Event) (counts counts' : Counts) (outputs outputs' : List (Output K)) (stop : SplitGot) → DoesEvent written faults event counts counts' outputs outputs' (Some stop) → WriteRose faults stop outputs outputs'
 event_rose written faults event counts counts' outputs outputs' (got.Opens interface) does = tt
-event_rose written faults event counts counts' outputs outputs' (got.Unwritten interface) does = does.2
+event_rose written faults event counts counts' outputs outputs' (got.Unwritten interface) does = does.5
 event_rose written faults event counts counts' outputs outputs' got.End does = tt
 event_rose written faults event counts counts' outputs outputs' (got.Malformed at) does = tt
 event_rose written faults event counts counts' outputs outputs' got.Failed does = tt

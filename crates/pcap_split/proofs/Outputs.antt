@@ -1,5 +1,5 @@
 -- What outputs are given for one event.
-use Rattle.std.proofs.Common.{◌≡◌, ◌≢◌, ℕ, zero, suc, ◌<◌, ◌≤◌, ◌==◌, ◌||◌, Bool, true, false, List, [], ◌∷◌, length, get_or, set, Option, Some, None, refl, sym, ap, subst, inl, inr, ◌⊎◌, ◌∙◌, arith, append-nil, get_or-set_other, get_or-set_same}
+use Rattle.std.proofs.Common.{◌≡◌, ◌≢◌, ℕ, zero, suc, ◌<◌, ◌==◌, ◌||◌, Bool, true, false, List, [], ◌∷◌, length, get_or, set, Option, Some, None, refl, sym, ap, subst, inl, inr, ◌⊎◌, ◌∙◌, arith, append-nil, get_or-set_other, get_or-set_same}
 use Rattle.std.proofs.lemmas.List.{get_or_default}
 use Rattle.std.proofs.lemmas.Bool.{cases_eq}
 use Rattle.std.proofs.lemmas.Bool.Decides.{nat_tests}
@@ -12,7 +12,7 @@ use Rattle.pcapng_io.specs.Runs.{Event, Frame}
 use Rattle.pcap_split.specs.declared.output.Output.{Output}
 use Rattle.pcap_split.specs.Splits.{frames_of}
 use Rattle.pcap_split.specs.Counts.{interfaces_of}
-use Rattle.pcap_split.specs.Going.{HasTaken, HasTakenFront, EachOutput, IsOutputOf, Differ, HasRisen}
+use Rattle.pcap_split.specs.Going.{HasTaken, HasTakenBut, EachOutput, IsOutputOf, Differ, HasRisen}
 
 behind_none : (o : Option (List ℕ)) → o ≡ behind o []
 behind_none None = refl
@@ -27,9 +27,6 @@ frame_elsewhere k i stamp octets other = grind (arith, nat_tests)
 -- an output of another interface is given nothing
 idle : {K : Type 0} (written : K → Option (List ℕ)) (faults : K → ℕ) (e : Event) (o : Output K) → frames_of o.interface (e ∷ []) ≡ [] → HasTaken written faults (e ∷ []) o o
 idle written faults e o none = record { same = refl; still = refl; text = behind_none (written o.sink) ∙ ap (λ (s : List Sent). behind (written o.sink) (records_text s)) (sym none) }
-
-idle_front : {K : Type 0} (written : K → Option (List ℕ)) (faults : K → ℕ) (failed : ℕ) (e : Event) (o : Output K) → HasTakenFront written faults failed (e ∷ []) o o
-idle_front written faults failed e o = record { same = refl; later = omega arith; still = λ other. refl; text = ([], (records_text (frames_of o.interface (e ∷ [])), refl), behind_none (written o.sink)) }
 
 pub all_idle : {K : Type 0} (written : K → Option (List ℕ)) (faults : K → ℕ) (e : Event) (outputs : List (Output K)) → ((k : ℕ) (d : Output K) → k < length outputs → frames_of (get_or outputs k d).interface (e ∷ []) ≡ []) → EachOutput (HasTaken written faults (e ∷ [])) outputs outputs
 all_idle written faults e outputs none = (refl, λ k d within. idle written faults e (get_or outputs k d) (none k d within))
@@ -68,24 +65,19 @@ one_taken {K} written faults outputs place interface stamp octets x y differ her
     (frame_elsewhere (get_or outputs k d).interface interface stamp octets (λ e. other (differ k place d within here.0 (sym e ∙ sym (here.1 d))))))
 
 -- the output at this place is given a front of a frame's record
-pub one_front : {K : Type 0} (written : K → Option (List ℕ)) (faults : K → ℕ) (outputs : List (Output K)) (place interface stamp : ℕ) (octets : List ℕ) (x : Output K) (y : K) → IsOutputOf outputs place interface → faults (get_or outputs place x).sink ≤ faults y
-    → (front : List ℕ) × IsFront front (record_text stamp octets) × (written y ≡ behind (written (get_or outputs place x).sink) front) → EachOutput (HasTakenFront written faults interface (Frame interface stamp octets ∷ [])) outputs (set outputs place (output_by (get_or outputs place x).interface y))
-one_front {K} written faults outputs place interface stamp octets x y here later text =
-    by_place (HasTakenFront written faults interface (Frame interface stamp octets ∷ [])) outputs place (output_by (get_or outputs place x).interface y)
-    (λ d inside. subst (λ (o : Output K). HasTakenFront written faults interface (Frame interface stamp octets ∷ []) o (output_by (get_or outputs place x).interface y)) (get_or_default outputs place x d inside)
-    (record {
-      same = refl;
-      later = later;
-      still = λ other. absurd (other (here.1 x));
-      text = (
-        text.0,
-        subst (IsFront text.0)
-            (sym (append-nil (record_text stamp octets)) ∙ ap (λ (s : List Sent). records_text s) (sym (frame_here (get_or outputs place x).interface interface stamp octets (sym (here.1 x)))))
-            text.1,
-        text.2,
-      );
-    }))
-    (λ k d within other. idle_front written faults interface (Frame interface stamp octets) (get_or outputs k d))
+pub one_front : {K : Type 0} (written : K → Option (List ℕ)) (faults : K → ℕ) (outputs : List (Output K)) (place interface stamp : ℕ) (octets : List ℕ) (x : Output K) (y : K) → Differ outputs → IsOutputOf outputs place interface → Rose (faults (get_or outputs place x).sink) (faults y)
+    → (front : List ℕ) × IsFront front (record_text stamp octets) × (written y ≡ behind (written (get_or outputs place x).sink) front) → EachOutput (HasTakenBut written faults interface [] stamp octets) outputs (set outputs place (output_by (get_or outputs place x).interface y))
+one_front {K} written faults outputs place interface stamp octets x y differ here rose text =
+    by_place (HasTakenBut written faults interface [] stamp octets) outputs place (output_by (get_or outputs place x).interface y)
+    (λ d inside. subst (λ (o : Output K). HasTakenBut written faults interface [] stamp octets o (output_by (get_or outputs place x).interface y)) (get_or_default outputs place x d inside)
+    (λ other. absurd (other (here.1 x)), λ is. record { same = refl; rose = rose; text = text }))
+    (λ k d within other. elsewhere (get_or outputs k d) (λ e. other (differ k place d within here.0 (e ∙ sym (here.1 d)))))
+  where
+    elsewhere : (o : Output K) → o.interface ≢ interface → HasTakenBut written faults interface [] stamp octets o o
+    elsewhere o apart = (
+      λ other. idle written faults (Frame interface stamp octets) o (frame_elsewhere o.interface interface stamp octets (λ e. apart (sym e))),
+      λ is. absurd (apart is),
+    )
 
 pub one_risen : {K : Type 0} (faults : K → ℕ) (outputs : List (Output K)) (place interface : ℕ) (x : Output K) (y : K) → IsOutputOf outputs place interface → Rose (faults (get_or outputs place x).sink) (faults y) → HasRisen faults interface outputs (set outputs place (output_by (get_or outputs place x).interface y))
 one_risen {K} faults outputs place interface x y here rose = (

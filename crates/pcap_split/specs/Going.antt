@@ -4,9 +4,9 @@ use Rattle.savi_kinds.specs.declared.entry.How.{How}
 use Rattle.savi_kinds.specs.declared.entry.How.TheVariants as how
 use Rattle.savi_ends.specs.Octets.{behind, IsFront}
 use Rattle.savi_ends.specs.Faults.{Rose}
-use Rattle.pcap_io.specs.Captures.{records_text}
+use Rattle.pcap_io.specs.Captures.{record_text, records_text}
 use Rattle.pcapng_io.specs.Blocks.{Standing}
-use Rattle.pcapng_io.specs.Runs.{Event, Begins}
+use Rattle.pcapng_io.specs.Runs.{Event, Begins, Frame}
 use Rattle.pcapng_io.specs.Readers.{State, Reading, Ended, Comes, HasRead, IsUnread, block_place, longest_block}
 use Rattle.pcap_split.specs.declared.split.SplitGot.{SplitGot}
 use Rattle.pcap_split.specs.declared.split.SplitGot.TheVariants as got
@@ -67,22 +67,27 @@ pub record HasTaken {K : Type 0} (written : K → Option (List ℕ)) (faults : K
   pub still : faults new.sink ≡ faults old.sink
   pub text : written new.sink ≡ behind (written old.sink) (records_text (frames_of old.interface events))
 
--- a write to the output of this interface failed: an output was given a front of the records of its interface's frames, and
--- no write of another one failed
-pub record HasTakenFront {K : Type 0} (written : K → Option (List ℕ)) (faults : K → ℕ) (failed : ℕ) (events : List Event) (old new : Output K) : Type 0 where
+-- an output was given the records of its interface's frames, and then a front of the record of one more, where a write failed
+pub record HasTakenFront {K : Type 0} (written : K → Option (List ℕ)) (faults : K → ℕ) (earlier : List Event) (stamp : ℕ) (octets : List ℕ) (old new : Output K) : Type 0 where
   pub same : new.interface ≡ old.interface
-  pub later : faults old.sink ≤ faults new.sink
-  pub still : old.interface ≢ failed → faults new.sink ≡ faults old.sink
-  pub text : (front : List ℕ) × IsFront front (records_text (frames_of old.interface events)) × (written new.sink ≡ behind (written old.sink) front)
+  pub rose : Rose (faults old.sink) (faults new.sink)
+  pub text : (front : List ℕ) × IsFront front (record_text stamp octets) × (written new.sink ≡ behind (written old.sink) (records_text (frames_of old.interface earlier) ++ front))
+
+-- The write of a frame to the output of its interface failed, behind these events: each other output was given all of its own.
+abbrev pub HasTakenBut : {K : Type 0} → (K → Option (List ℕ)) → (K → ℕ) → ℕ → List Event → ℕ → List ℕ → Output K → Output K → Type 0
+HasTakenBut written faults failed earlier stamp octets old new =
+    (old.interface ≢ failed → HasTaken written faults (earlier ++ Frame failed stamp octets ∷ []) old new)
+    × (old.interface ≡ failed → HasTakenFront written faults earlier stamp octets old new)
 
 -- each output as it was and as it is now
 abbrev pub EachOutput : {K : Type 0} → (Output K → Output K → Type 0) → List (Output K) → List (Output K) → Type 0
 EachOutput {K} R old new = (length new ≡ length old) × ((k : ℕ) (d : Output K) → k < length old → R (slice_index_or old k d) (slice_index_or new k d))
 
--- what the outputs were given
+-- What the outputs were given. Where a write failed, the last event is the frame whose record couldn't be written.
 abbrev pub Writes : {K : Type 0} → (K → Option (List ℕ)) → (K → ℕ) → SplitGot → List Event → List (Output K) → List (Output K) → Type 0
 Writes written faults (got.Opens interface) events old new = EachOutput (HasTaken written faults events) old new
-Writes written faults (got.Unwritten interface) events old new = EachOutput (HasTakenFront written faults interface events) old new
+Writes written faults (got.Unwritten interface) events old new =
+    (earlier : List Event) × (stamp : ℕ) × (octets : List ℕ) × (events ≡ earlier ++ Frame interface stamp octets ∷ []) × EachOutput (HasTakenBut written faults interface earlier stamp octets) old new
 Writes written faults got.End events old new = EachOutput (HasTaken written faults events) old new
 Writes written faults (got.Malformed at) events old new = EachOutput (HasTaken written faults events) old new
 Writes written faults got.Failed events old new = EachOutput (HasTaken written faults events) old new

@@ -9,7 +9,7 @@ use Rattle.pcap_split.specs.declared.counts.Counts.{Counts}
 use Rattle.pcap_split.specs.declared.output.Output.{Output}
 use Rattle.pcap_split.specs.Splits.{tallied}
 use Rattle.pcap_split.specs.Counts.{interfaces_of, tally_of, counted}
-use Rattle.pcap_split.specs.Going.{HasTaken, HasTakenFront, EachOutput, HasRisen}
+use Rattle.pcap_split.specs.Going.{HasTaken, HasTakenBut, EachOutput, HasRisen}
 
 -- there is room for one more in the counts, and a frame is as long as a frame may be
 abbrev pub MayTake : NgNext → Counts → Type 0
@@ -28,7 +28,8 @@ IsTallied event old new outputs more = (counted new ≡ counted old + 1) × (tal
 abbrev pub DoesEvent : {K : Type 0} → (K → Option (List ℕ)) → (K → ℕ) → Event → Counts → Counts → List (Output K) → List (Output K) → Option SplitGot → Type 0
 DoesEvent written faults event counts counts' old new None = EachOutput (HasTaken written faults (event ∷ [])) old new × IsTallied event counts counts' old []
 DoesEvent written faults event counts counts' old new (Some (got.Opens interface)) = EachOutput (HasTaken written faults (event ∷ [])) old new × IsTallied event counts counts' old (interface ∷ []) × (event ≡ Begins 1) × (interface ≡ counts.interfaces)
-DoesEvent written faults event counts counts' old new (Some (got.Unwritten interface)) = EachOutput (HasTakenFront written faults interface (event ∷ [])) old new × IsTallied event counts counts' old [] × HasRisen faults interface old new
+DoesEvent written faults event counts counts' old new (Some (got.Unwritten interface)) =
+    (stamp : ℕ) × (octets : List ℕ) × (event ≡ Frame interface stamp octets) × EachOutput (HasTakenBut written faults interface [] stamp octets) old new × IsTallied event counts counts' old [] × HasRisen faults interface old new
 DoesEvent written faults event counts counts' old new (Some got.End) = ⊥
 DoesEvent written faults event counts counts' old new (Some (got.Malformed at)) = ⊥
 DoesEvent written faults event counts counts' old new (Some got.Failed) = ⊥

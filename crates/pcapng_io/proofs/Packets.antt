@@ -1,16 +1,19 @@
 -- Packets, as far as they were read.
-use Rattle.std.proofs.Common.{◌≡◌, ℕ, ◌+◌, ◌-◌, ◌*◌, ◌^◌, ◌<◌, ◌≤◌, false, List, [], ◌++◌, length, take, drop, get_or, Option, Some, lit≤, refl, sym, ap, subst, ◌∙◌, arith, append_assoc, append-nil, length-append}
-use Rattle.std.proofs.lemmas.List.{take-append-le, length-take-le}
+use Rattle.std.proofs.Common.{◌≡◌, ℕ, ◌+◌, ◌-◌, ◌*◌, ◌^◌, ◌<◌, ◌≤◌, false, List, [], ◌++◌, length, take, drop, get_or, Option, Some, inl, inr, lit≤, refl, sym, ap, subst, ◌∙◌, arith, append_assoc, append-nil, length-append}
+use Rattle.std.proofs.lemmas.List.{take-append-le, take-append-drop, length-take-le}
+use Rattle.std.proofs.lemmas.Bool.{cases_lt}
 use Rattle.pcap_io.specs.declared.kind.ByteOrder.{ByteOrder}
 use Rattle.pcap_io.specs.Numbers.{number_at}
 use Rattle.pcap_io.proofs.Fronts.{drop_front, number_at-append}
 use Rattle.pcapng_io.specs.declared.stop.Stop.{Stop}
 use Rattle.pcapng_io.specs.declared.stop.Stop.TheVariants as stop
+use Rattle.pcapng_io.specs.declared.block.BlockRead.{BlockRead}
+use Rattle.pcapng_io.specs.declared.block.BlockRead.TheVariants as read
 use Rattle.pcapng_io.specs.Options.{padded, HaveOptions}
 use Rattle.pcapng_io.specs.Blocks.{Packet, Standing, IsTotal, IsFramed, part_from, stamp_of, IsPacket, IsBlock}
-use Rattle.pcapng_io.specs.Pieces.{Stops, FallsShort, IsRest, IsSomeBlock}
+use Rattle.pcapng_io.specs.Pieces.{Stops, FallsShort, IsRest, IsCaptured, IsRead, IsSomeBlock}
 use Rattle.pcapng_io.proofs.Fronts.{number_behind}
-use Rattle.pcapng_io.proofs.Parts.{short_stops, short_behind, wrong_stops, stops_behind}
+use Rattle.pcapng_io.proofs.Parts.{same_fronts, short_stops, wrong_stops, stops_behind}
 use Rattle.pcapng_io.proofs.BlockParts.{packet_of, named_in_front, rest_of, framed_by}
 
 -- a head of a packet's block
@@ -64,25 +67,16 @@ packet_fields_wrong s order head fields left h fields_size wrong =
     (λ first is. let long = packet_long s order head first h is in omega (arith, fields_size, long.0, long.1.fits))
     (λ x is. wrong (packet_fields s order head fields x h fields_size is))
 
-pub captured_short : (s : Standing) (order : ByteOrder) (head fields g : List ℕ) (why : Stop) (left : Option (List ℕ)) → PacketHead s order head → length fields ≡ 20 → PacketFields s order head fields → FallsShort (padded (number_at order 12 fields)) why g left → Stops (IsSomeBlock s head) why (fields ++ g) left
-captured_short s order head fields g why left h fields_size f short =
-    short_stops (IsSomeBlock s head) (length fields + padded (number_at order 12 fields)) (fields ++ g) why left
-    (λ first is. let long = packet_long s order head first h is in omega (arith, fields_size, long.0, f.fits))
-    (short_behind (padded (number_at order 12 fields)) fields g why left short)
-
 joined : (head fields body x : List ℕ) → (head ++ (fields ++ body)) ++ x ≡ head ++ ((fields ++ body) ++ x)
 joined head fields body x = append_assoc head (fields ++ body) x
 
-pub packet_stops : (s : Standing) (order : ByteOrder) (head fields body g : List ℕ) (why : Stop) (left : Option (List ℕ)) (len total : ℕ) → PacketHead s order head → length fields ≡ 20 → PacketFields s order head fields
-    → len ≡ number_at order 12 fields → total ≡ number_at order 4 head → length body ≡ padded len
-    → Stops (λ x. (units : ℕ) × IsRest order false (total - 28 - 4 - padded len) total units x) why g left → Stops (IsSomeBlock s head) why ((fields ++ body) ++ g) left
-packet_stops s order head fields body g why left len total h fields_size f len_is total_is size stops =
+-- what stands behind the captured octets of a packet
+packet_rest : (s : Standing) (order : ByteOrder) (head fields body x : List ℕ) (len total : ℕ) → PacketHead s order head → length fields ≡ 20 → PacketFields s order head fields → len ≡ number_at order 12 fields → total ≡ number_at order 4 head → length body ≡ padded len
+    → IsSomeBlock s head ((fields ++ body) ++ x) → (units : ℕ) × IsRest order false (total - 28 - 4 - padded len) total units x
+packet_rest s order head fields body x len total h fields_size f len_is total_is size is =
     let n = 28 + padded len in
     let fits : n + 4 ≤ total = omega (arith, f.fits, total_is, ap padded len_is) in
     let front_size : length (head ++ (fields ++ body)) ≡ n = omega (arith, h.size, fields_size, size, length-append head (fields ++ body), length-append fields body) in
-    stops_behind (IsSomeBlock s head) (λ x. (units : ℕ) × IsRest order false (total - 28 - 4 - padded len) total units x) (fields ++ body) g why left
-    (λ first is. let long = packet_long s order head first h is in omega (arith, fields_size, size, fits, total_is, long.0, length-append fields body))
-    (λ x is.
     let whole = packet_in s order head ((fields ++ body) ++ x) h is in
     let flat : (fields ++ body) ++ x ≡ fields ++ (body ++ x) = append_assoc fields body x in
     let size_is : length whole.2 ≡ len =
@@ -90,16 +84,40 @@ packet_stops s order head fields body g why left len total h fields_size f len_i
     let at = sym (joined head fields body x) in
     let options : HaveOptions order false whole.4.options.0 (part_from n (head ++ ((fields ++ body) ++ x))) =
     subst (λ (k : ℕ). HaveOptions order false whole.4.options.0 (part_from (28 + padded k) (head ++ ((fields ++ body) ++ x)))) size_is whole.4.options.1 in (
-      x,
-      [],
-      sym (append-nil x),
-      (
-        whole.4.options.0,
-        rest_of order false s.place 32 n (total - 28 - 4 - padded len) total whole.4.options.0 (head ++ (fields ++ body)) x front_size (number_at-append order 4 head (fields ++ body) (omega (arith, h.size)) ∙ sym total_is) (omega (arith, fits)) (omega arith)
-            (subst (λ (l : List ℕ). IsFramed s.place 32 order l) at whole.3)
-            (subst (λ (l : List ℕ). HaveOptions order false whole.4.options.0 (part_from n l)) at options),
-      ),
-    ))
+      whole.4.options.0,
+      rest_of order false s.place 32 n (total - 28 - 4 - padded len) total whole.4.options.0 (head ++ (fields ++ body)) x front_size (number_at-append order 4 head (fields ++ body) (omega (arith, h.size)) ∙ sym total_is) (omega (arith, fits)) (omega arith)
+          (subst (λ (l : List ℕ). IsFramed s.place 32 order l) at whole.3)
+          (subst (λ (l : List ℕ). HaveOptions order false whole.4.options.0 (part_from n l)) at options),
+    )
+
+pub packet_stops : (s : Standing) (order : ByteOrder) (head fields g : List ℕ) (why : Stop) (left : Option (List ℕ)) (len total : ℕ) → PacketHead s order head → length fields ≡ 20 → PacketFields s order head fields → len ≡ number_at order 12 fields → total ≡ number_at order 4 head
+    → Stops (IsCaptured order len total) why g left → Stops (IsSomeBlock s head) why (fields ++ g) left
+packet_stops s order head fields g why left len total h fields_size f len_is total_is stops =
+    stops_behind (IsSomeBlock s head) (IsCaptured order len total) fields g why left
+    (λ first is. let long = packet_long s order head first h is in omega (arith, fields_size, f.fits, long.0))
+    (λ x is.
+    let long = packet_long s order head (fields ++ x) h is in
+    let body = take (padded len) x in
+    let rest = drop (padded len) x in
+    let split : body ++ rest ≡ x = take-append-drop (padded len) x in
+    let size : length body ≡ padded len = length-take-le (padded len) x (omega (arith, fields_size, f.fits, long.0, ap padded len_is, length-append fields x)) in
+    let at : fields ++ x ≡ (fields ++ body) ++ rest = ap (λ (l : List ℕ). fields ++ l) (sym split) ∙ sym (append_assoc fields body rest) in
+    let behind = packet_rest s order head fields body rest len total h fields_size f len_is total_is size (subst (IsSomeBlock s head) at is) in
+    (x, [], sym (append-nil x), (body, rest, behind.0, sym split, size, behind.1)))
+    stops
+
+-- where the captured octets of a packet, or what stands behind them, are cut short or wrong
+pub captured_least : (order : ByteOrder) (len total : ℕ) (octets : List ℕ) → IsCaptured order len total octets → padded len ≤ length octets
+captured_least order len total octets is = omega (arith, ap length is.3, is.4, length-append is.0 is.1)
+
+pub captured_stops : (order : ByteOrder) (len total : ℕ) (body g : List ℕ) (why : Stop) (left : Option (List ℕ)) → length body ≡ padded len
+    → Stops (λ x. (units : ℕ) × IsRest order false (total - 28 - 4 - padded len) total units x) why g left → Stops (IsCaptured order len total) why (body ++ g) left
+captured_stops order len total body g why left size stops =
+    stops_behind (IsCaptured order len total) (λ x. (units : ℕ) × IsRest order false (total - 28 - 4 - padded len) total units x) body g why left
+    (λ first is. omega (arith, size, captured_least order len total first is))
+    (λ x is.
+    let same = same_fronts body x is.0 is.1 is.3 (size ∙ sym is.4) in
+    (x, [], sym (append-nil x), (is.2, subst (λ (l : List ℕ). IsRest order false (total - 28 - 4 - padded len) total is.2 l) (sym same.1) is.5)))
     stops
 
 pub packet_read : (s : Standing) (order : ByteOrder) (head fields body x captured : List ℕ) (interface stamp units len total : ℕ) → PacketHead s order head → IsTotal s.place 32 total → length fields ≡ 20 → PacketFields s order head fields
@@ -149,3 +167,12 @@ packet_read s order head fields body x captured interface stamp units len total 
       sym (ap (λ (l : List ℕ). length l) at) ∙ by.0,
       captured_size,
     )
+
+-- what is told of a packet whose captured octets the buffer holds where they are at most 1,518
+pub packet_told : (s : Standing) (block : BlockRead) (interface stamp len : ℕ) (buf held octets : List ℕ) → (1518 < len → block ≡ read.Long interface) → (len ≤ 1518 → block ≡ read.Frame interface stamp len) → (len ≤ 1518 → held ≡ take len buf) → length held ≡ len
+    → IsBlock s (Packet interface stamp held) octets → IsRead s block buf octets
+packet_told s block interface stamp len buf held octets long frame same size is =
+    elim (cases_lt 1518 len) [
+      | inl more ↦ subst (λ (b : BlockRead). IsRead s b buf octets) (sym (long more)) (stamp, held, omega (arith, more, size), is)
+      | inr few ↦ subst (λ (b : BlockRead). IsRead s b buf octets) (sym (frame few)) (few, subst (λ (l : List ℕ). IsBlock s (Packet interface stamp l) octets) (same few) is)
+    ]

@@ -1,5 +1,5 @@
 -- What the parts of a block say of the octets that were taken for them.
-use Rattle.std.specs.Prelude.{◌≡◌, ℕ, ◌+◌, ◌<◌, ◌≤◌, Bool, IsTrue, List, [], ◌∷◌, ◌++◌, length, take, slice_index, Option, Some, None, IfSome, IsSome}
+use Rattle.std.specs.Prelude.{◌≡◌, ℕ, ◌+◌, ◌-◌, ◌<◌, ◌≤◌, Bool, false, IsTrue, List, [], ◌∷◌, ◌++◌, length, take, slice_index, Option, Some, None, IfSome, IsSome}
 use Rattle.savi_ends.specs.Octets.{NothingLeft}
 use Rattle.pcap_io.specs.declared.kind.ByteOrder.{ByteOrder}
 use Rattle.pcap_io.specs.Numbers.{number_at}
@@ -62,6 +62,11 @@ pub record IsRest (order : ByteOrder) (is_interface : Bool) (len total units : �
   pub size : length octets ≡ len + 4
   pub options : HaveOptions order is_interface units (take len octets)
   pub again : number_at order len octets ≡ total
+
+-- so many captured octets of a packet with their padding, and what stands behind them in a block of this total length
+abbrev pub IsCaptured : ByteOrder → ℕ → ℕ → List ℕ → Type 0
+IsCaptured order len total octets =
+    (body : List ℕ) × (rest : List ℕ) × (units : ℕ) × (octets ≡ body ++ rest) × (length body ≡ padded len) × IsRest order false (total - 28 - 4 - padded len) total units rest
 
 -- a block was read: its size, and of a packet's captured octets those that the buffer holds
 abbrev pub IsRead : Standing → BlockRead → List ℕ → List ℕ → Type 0

@@ -86,6 +86,15 @@ Answers old new gave buf left next.End = HasEnded old new gave left how.End
 Answers old new gave buf left (next.Malformed at) = HasEnded old new gave left (how.Malformed at)
 Answers old new gave buf left next.Failed = HasFailed old new gave
 
+-- A caller's buffer stays as it was but where a frame is told.
+abbrev pub KeepsUnlessFrame : NgNext → List ℕ → List ℕ → Type 0
+KeepsUnlessFrame (next.Interface link) old new = new ≡ old
+KeepsUnlessFrame (next.Frame interface stamp len) old new = Unit {0}
+KeepsUnlessFrame (next.Long interface) old new = new ≡ old
+KeepsUnlessFrame next.End old new = new ≡ old
+KeepsUnlessFrame (next.Malformed at) old new = new ≡ old
+KeepsUnlessFrame next.Failed old new = new ≡ old
+
 -- the answer of a capture that has ended so
 abbrev pub answer_of : How → Option NgNext
 answer_of how.End = Some next.End

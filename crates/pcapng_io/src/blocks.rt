@@ -1,19 +1,20 @@
-ghost use Rattle.std.specs.Prelude.{◌≡◌, ◌≢◌, ◌<◌, ◌≤◌, ◌+◌, ◌*◌, ◌^◌, ◌++◌, ◌↔◌, ℕ, List, [], take, IsTrue, MatchResult, IfSome, IfNone, IfErr, Err};
+ghost use Rattle.std.specs.Prelude.{◌≡◌, ◌≢◌, ◌<◌, ◌≤◌, ◌+◌, ◌-◌, ◌*◌, ◌%◌, ◌^◌, ◌++◌, ◌↔◌, ℕ, List, [], length, take, slice_index, IsTrue, MatchResult, IfSome, IfNone, IfErr, Err};
 ghost use Rattle.std.specs.Int.{w32};
 ghost use Rattle.savi_ends.specs.Octets.{Takes};
 ghost use Rattle.savi_ends.specs.Faults.{Rose};
 ghost use Rattle.pcap_io.specs.Numbers.{octets_of, number_at};
+ghost use Rattle.pcapng_io.specs.Options.{padded};
 ghost use Rattle.pcapng_io.specs.Blocks.{IsTotal, section_type, stamp_of};
 ghost use Rattle.pcapng_io.specs.Readers.{IsSound};
 ghost use Rattle.pcapng_io.specs.ReaderStates.{standing_of};
-ghost use Rattle.pcapng_io.specs.Pieces.{StopsWithin, StopsHere, IsWhole, IsBlockRead, IsSomeBlock};
+ghost use Rattle.pcapng_io.specs.Pieces.{StopsWithin, StopsHere, IsWhole, IsBlockRead, IsSomeBlock, IsCaptured};
 
 use crate::block::{BlockRead, Whole};
 use crate::numbers::{half_at, number_at, stands_at};
 use crate::options::{TAIL, read_rest, read_tail};
 use crate::position::{FILE_INTERFACES_MOST, Position, SECTION_INTERFACES_MOST};
 use crate::stop::Stop;
-use crate::taking::{padded_len, pass_over, take, take_captured};
+use crate::taking::{SCRATCH_OCTETS, padded_len, pass_over, take, take_captured};
 use pcap_io::ByteOrder;
 use savi_ends::{Filled, Source, fill};
 use savi_kinds::FRAME_OCTETS_MOST;
@@ -168,6 +169,48 @@ fn read_interface<S: Source>(
     })
 }
 
+// Reads so many captured octets of a packet, and what stands behind them in a block of this total length.
+fn read_captured<S: Source>(
+    source: &mut S,
+    order: ByteOrder,
+    len: u32,
+    total: u32,
+    buf: &mut [u8; FRAME_OCTETS_MOST],
+) -> Result<(), Stop>
+    requires captured { len ≤ 262144 }
+    requires words { total % 4 ≡ 0 }
+    requires most { total ≤ 1048576 }
+    requires fits { 28 + padded len + 4 ≤ total }
+    ensures later { S.faults source.old ≤ S.faults source.new }
+    ensures cause { IfErr result (λ stop. stop ≡ Stop.Failed → Rose (S.faults source.old) (S.faults source.new)) }
+    ensures still { result ≢ Err Stop.Failed → S.faults source.new ≡ S.faults source.old }
+    ensures octets { (gave : List ℕ) × Takes (S.left source.old) (S.left source.new) gave × MatchResult result (λ _. IsCaptured order len total gave × (len ≤ 1518 → take len gave ≡ take len buf.new)) (λ stop. StopsWithin (total - 28) (IsCaptured order len total) stop gave (S.left source.new)) }
+{
+    take_captured(source, len as usize, buf)?;
+    let options = (total - PACKET_FRONT) as usize - TAIL - padded_len(len as usize);
+    read_rest(source, order, false, options, total)?;
+    Ok(())
+}
+
+// The packet of so many captured octets of this interface of the section.
+fn packet_of(position: &Position, of_section: u32, ticks: u64, len: u32) -> BlockRead
+    requires sound { IsSound (standing_of position.now) }
+    requires declared { of_section < length (standing_of position.now).units }
+    ensures long { 1518 < len → result ≡ BlockRead.Long (position.now.earlier + of_section) }
+    ensures frame { len ≤ 1518 → result ≡ BlockRead.Frame (position.now.earlier + of_section) (stamp_of (slice_index (standing_of position.now).units of_section) ticks) len }
+{
+    let interface = position.earlier + of_section;
+    if len as usize > FRAME_OCTETS_MOST {
+        return BlockRead::Long { interface };
+    }
+    let stamp = stamp_in(position.units[of_section as usize], ticks);
+    BlockRead::Frame {
+        interface,
+        stamp,
+        len,
+    }
+}
+
 // Reads a packet behind the type and total length of its block.
 fn read_packet<S: Source>(
     source: &mut S,
@@ -199,24 +242,12 @@ fn read_packet<S: Source>(
     {
         return Err(Stop::Malformed);
     }
-    take_captured(source, len as usize, buf)?;
-    let options = (total - PACKET_FRONT) as usize - TAIL - padded_len(len as usize);
-    read_rest(source, order, false, options, total)?;
-    let interface = position.earlier + of_section;
-    let block = if len as usize > FRAME_OCTETS_MOST {
-        BlockRead::Long { interface }
-    } else {
-        let stamp = stamp_in(
-            position.units[of_section as usize],
-            ticks_in(order, &fields),
-        );
-        BlockRead::Frame {
-            interface,
-            stamp,
-            len,
-        }
-    };
-    Ok(Whole { block, size: total })
+    read_captured(source, order, len, total, buf)?;
+    let ticks = ticks_in(order, &fields);
+    Ok(Whole {
+        block: packet_of(position, of_section, ticks, len),
+        size: total,
+    })
 }
 
 // Passes over a block of another type, behind its type and total length.
@@ -225,7 +256,6 @@ fn read_other<S: Source>(
     order: ByteOrder,
     head: &[u8; HEAD],
     position: &Position,
-    buf: &mut [u8; FRAME_OCTETS_MOST],
 ) -> Result<Whole, Stop>
     requires sound { IsSound (standing_of position.now) }
     requires order_is { position.now.order ≡ Some order }
@@ -242,12 +272,40 @@ fn read_other<S: Source>(
     if !is_total(position.place, BLOCK_LEAST, total) {
         return Err(Stop::Malformed);
     }
-    pass_over(source, total as usize - HEAD - TAIL, buf)?;
+    pass_over(
+        source,
+        total as usize - HEAD - TAIL,
+        &mut [0; SCRATCH_OCTETS],
+    )?;
     read_tail(source, order, total)?;
     Ok(Whole {
         block: BlockRead::Other,
         size: total,
     })
+}
+
+// Reads a block of a section behind its type and total length.
+fn read_within<S: Source>(
+    source: &mut S,
+    order: ByteOrder,
+    head: &[u8; HEAD],
+    position: &Position,
+    buf: &mut [u8; FRAME_OCTETS_MOST],
+) -> Result<Whole, Stop>
+    requires sound { IsSound (standing_of position.now) }
+    requires order_is { position.now.order ≡ Some order }
+    requires no_section { take 4 head.now ≢ section_type }
+    ensures later { S.faults source.old ≤ S.faults source.new }
+    ensures cause { IfErr result (λ stop. stop ≡ Stop.Failed → Rose (S.faults source.old) (S.faults source.new)) }
+    ensures still { result ≢ Err Stop.Failed → S.faults source.new ≡ S.faults source.old }
+    ensures sound { result ≡ Err Stop.Failed → IsTotal position.now.place 12 (number_at order 4 head.now) }
+    ensures octets { let s = standing_of position.now in (gave : List ℕ) × Takes (S.left source.old) (S.left source.new) gave × MatchResult result (λ whole. IsWhole s whole buf.new (head.now ++ gave)) (λ stop. StopsWithin 1048568 (IsSomeBlock s head.now) stop gave (S.left source.new)) }
+{
+    match number_at(order, head, 0) {
+        INTERFACE_TYPE => read_interface(source, order, head, position),
+        PACKET_TYPE => read_packet(source, order, head, position, buf),
+        _ => read_other(source, order, head, position),
+    }
 }
 
 // Reads the block that begins at this place; none where the capture ends.
@@ -273,10 +331,5 @@ pub(crate) fn read_block<S: Source>(
         return Ok(Some(read_section(source, &head, position)?));
     }
     let order = position.order.ok_or(Stop::Malformed)?;
-    let whole = match number_at(order, &head, 0) {
-        INTERFACE_TYPE => read_interface(source, order, &head, position)?,
-        PACKET_TYPE => read_packet(source, order, &head, position, buf)?,
-        _ => read_other(source, order, &head, position, buf)?,
-    };
-    Ok(Some(whole))
+    Ok(Some(read_within(source, order, &head, position, buf)?))
 }

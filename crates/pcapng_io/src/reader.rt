@@ -1,6 +1,7 @@
-ghost use Rattle.std.specs.Prelude.{◌≡◌, ◌≢◌, ◌≤◌, ℕ, List, [], ◌∷◌, IfSome};
+ghost use Rattle.std.specs.Prelude.{◌≡◌, ◌≢◌, ◌≤◌, ℕ, List, [], ◌∷◌, take, IfSome};
 ghost use Rattle.savi_ends.specs.Octets.{Takes};
 ghost use Rattle.savi_ends.specs.Faults.{Rose};
+ghost use Rattle.pcapng_io.specs.Readers.{KeepsUnlessFrame};
 
 use crate::next::NgNext;
 use crate::position::Position;
@@ -17,6 +18,8 @@ use std::marker::Model;
 pub struct NgReader {
     position: Position,
     state: State,
+    // what of a packet was read: only a whole frame goes into the caller's buffer
+    room: [u8; FRAME_OCTETS_MOST],
 }
 
 // What a reader is ready for.
@@ -59,24 +62,26 @@ impl NgReader {
                 units: ArrayVec::new(),
             },
             state: State::Reading,
+            room: [0; FRAME_OCTETS_MOST],
         }
     }
 
     /// Reads up to the next interface or packet; blocks of other types are passed over.
     ///
-    /// The octets of a `Frame` are the first `len` of the buffer. The stamp is in ms, rounded down, and at most 2^62.
-    /// `Malformed` gives the place of the block that is at fault: one cut short, of another length at its end, of less
-    /// than 12 or more than 1,048,576 octets, or that ends past place 2^62; no section header at the start; another major
-    /// version than 1; an option that doesn't fit its block; a resolution under 10^-38 s or 2^-100 s; more than 256
-    /// interfaces of a section or 65,536 of the file; a packet of an interface that there isn't, or of more than 262,144
-    /// captured octets. `Failed` comes only where a read failed in this call. After `End`, `Malformed` or `Failed` the
-    /// reader reads nothing and answers the same again.
+    /// The octets of a `Frame` are the first `len` of the buffer; any other answer leaves it as it was. The
+    /// stamp is in ms, rounded down, and at most 2^62. `Malformed` gives the place of the block that is at fault: one cut
+    /// short, of another length at its end, of less than 12 or more than 1,048,576 octets, or that ends past place 2^62; no
+    /// section header at the start; another major version than 1; an option that doesn't fit its block; a resolution under
+    /// 10^-38 s or 2^-100 s; more than 256 interfaces of a section or 65,536 of the file; a packet of an interface that there
+    /// isn't, or of more than 262,144 captured octets. `Failed` comes only where a read failed in this call. After `End`,
+    /// `Malformed` or `Failed` the reader reads nothing and answers the same again.
     ///
-    /// O(n) in the octets that are read.
+    /// O(n) in the octets that are read, those of a frame copied once.
     pub fn next<S: Source>(&mut self, source: &mut S, buf: &mut [u8; FRAME_OCTETS_MOST]) -> NgNext
         ensures later { S.faults source.old ≤ S.faults source.new }
         ensures cause { result ≡ NgNext.Failed → self.old ≢ Ended how.Failed → Rose (S.faults source.old) (S.faults source.new) }
         ensures still { result ≢ NgNext.Failed → S.faults source.new ≡ S.faults source.old }
+        ensures kept { KeepsUnlessFrame result buf.old buf.new }
 
         // There are octets that the source gave in this call, and the answer is what they are.
         ensures octets { (gave : List ℕ) × Takes (S.left source.old) (S.left source.new) gave × Answers self.old self.new gave buf.new (S.left source.new) result }
@@ -87,7 +92,8 @@ impl NgReader {
     {
         match self.state {
             State::Reading => {
-                let answer = read_on(&mut self.position, source, buf);
+                let answer = read_on(&mut self.position, source, &mut self.room);
+                copy_frame(answer, &self.room, buf);
                 self.state = State::behind(answer);
                 answer
             }
@@ -113,5 +119,17 @@ impl State {
             NgNext::Malformed { at } => State::Malformed { at },
             NgNext::Failed => State::Failed,
         }
+    }
+}
+
+// Copies the octets of a frame; any other answer leaves the buffer as it was.
+fn copy_frame(answer: NgNext, room: &[u8; FRAME_OCTETS_MOST], buf: &mut [u8; FRAME_OCTETS_MOST])
+    requires { (interface stamp len : ℕ) → answer ≡ NgNext.Frame interface stamp len → len ≤ 1518 }
+    ensures frame { (interface stamp len : ℕ) → answer ≡ NgNext.Frame interface stamp len → take len buf.new ≡ take len room.now }
+    ensures kept { KeepsUnlessFrame answer buf.old buf.new }
+{
+    if let NgNext::Frame { len, .. } = answer {
+        let len = len as usize;
+        buf[..len].copy_from_slice(&room[..len]);
     }
 }

@@ -8,6 +8,9 @@ use crate::stop::Stop;
 use savi_ends::{Filled, Got, Source, fill};
 use savi_kinds::FRAME_OCTETS_MOST;
 
+/// The room for octets that are passed over.
+pub(crate) const SCRATCH_OCTETS: usize = 512;
+
 // Takes octets until the buffer is full.
 pub(crate) fn take<S: Source>(source: &mut S, buf: &mut [u8]) -> Result<(), Stop>
     ensures later { S.faults source.old ≤ S.faults source.new }
@@ -54,7 +57,8 @@ pub(crate) fn padded_len(len: usize) -> usize
     (len + 3) / 4 * 4
 }
 
-// Takes the captured octets of a packet and their padding: into the buffer where they are at most 1,518.
+// Takes the captured octets of a packet and their padding: into the buffer where they are at most 1,518, else
+// it is room for the pieces.
 pub(crate) fn take_captured<S: Source>(
     source: &mut S,
     len: usize,

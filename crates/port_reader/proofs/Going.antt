@@ -6,6 +6,7 @@ use Rattle.savi_kinds.specs.declared.entry.How.TheVariants as hows
 use Rattle.savi_kinds.specs.declared.arrival.Next.TheVariants as next
 use Rattle.savi_kinds.specs.Arrivals.{Arrival, Frame, Long}
 use Rattle.savi_ends.specs.Faults.{Rose}
+use Rattle.savi_ends.proofs.FaultCounts.{rose_since}
 use Rattle.savi_ends.specs.Octets.{Takes}
 use Rattle.savi_ends.specs.Readings.{AddsReading}
 use Rattle.savi_ends.proofs.Octets.{takes_more}
@@ -18,7 +19,7 @@ use Rattle.input_read.specs.declared.input.PortInput.{PortInput}
 use Rattle.input_read.specs.declared.reader.InputReader.{InputReader}
 use Rattle.input_read.specs.declared.reader.InputReader.TheVariants as readers
 use Rattle.parcel_ring.specs.Handed.{Handed, Arrived, Ended}
-use Rattle.port_reader.specs.Inputs.{AreReadStamped, FitsRead, record_reach}
+use Rattle.port_reader.specs.Inputs.{AreReadStamped, FitsRead, IsNearInputFault}
 use Rattle.port_reader.specs.Rows.{WasPut, all_handed}
 use Rattle.port_reader.specs.Progress.{GoesOn, StampsSoFar, GoesOnOrEnds, octets_taken, input_form}
 use Rattle.port_reader.proofs.Telling.{IsOne, fault_near, new_taken, one_taken, fits_end, fits_failed, fits_malformed, new_form, new_unbroken, one_form, one_frame, one_long, one_unbroken, read_more, read_none}
@@ -70,9 +71,6 @@ module _ {C : Type 0} (readings : C → Option (List ℕ)) (old new : C) where
   unread_failed : (reader : InputReader) → Stamps readings reader old new next.Failed → readings new ≡ readings old
   unread_failed (readers.Pcap state) same = ap readings same
   unread_failed (readers.Stream state) same = ap readings same
-
-rose_since : (first mid now : ℕ) → mid ≡ first → Rose mid now → Rose first now
-rose_since first mid now same rose = omega arith
 
 -- one arrival more was put
 handed_behind : (arrivals : List Arrival) (x : Arrival) → all_handed (arrivals ++ x ∷ []) ≡ all_handed arrivals ++ Arrived x ∷ []
@@ -127,7 +125,7 @@ module _ {S C : Type 0} (left : S → Option (List ℕ)) (faults : S → ℕ) (r
         → readings new.clock ≡ readings old.clock
         → (how ≡ hows.Failed → Rose (faults old.source) (faults new.source))
         → (how ≢ hows.Failed → faults new.source ≡ faults old.source)
-        → ((at : ℕ) → how ≡ hows.Malformed at → octets_taken old.reader + length gave ≤ at + record_reach (input_form old.reader))
+        → ((at : ℕ) → how ≡ hows.Malformed at → IsNearInputFault (input_form old.reader) at (octets_taken old.reader + length gave) (left new.source))
         → WasPut left faults readings format after source new.source clock new.clock
     ended_at how gave takes later put fits unread cause stays near = (
       goes.arrivals,
@@ -139,8 +137,10 @@ module _ {S C : Type 0} (left : S → Option (List ℕ)) (faults : S → ℕ) (r
         stamped = subst (λ (f : Format). AreReadStamped f (readings clock) (readings new.clock) goes.arrivals) goes.form
             (stamped_last old.reader (readings clock) (readings old.clock) (readings new.clock) goes.arrivals unread goes.stamped);
         near = λ at is.
-            subst (λ (f : Format). length (goes.gave ++ gave) ≤ at + record_reach f) goes.form
-            (let bound = near at is in let before_it = goes.taken in omega (arith, bound, before_it, length-append goes.gave gave));
+            let before_it = goes.taken in
+            let all : octets_taken old.reader + length gave ≡ length (goes.gave ++ gave) = omega (arith, before_it, length-append goes.gave gave) in
+            subst (λ (f : Format). IsNearInputFault f at (length (goes.gave ++ gave)) (left new.source)) goes.form
+            (subst (λ (n : ℕ). IsNearInputFault (input_form old.reader) at n (left new.source)) all (near at is));
         later = let first = goes.still in omega arith;
         broken = λ failed. rose_since (faults source) (faults old.source) (faults new.source) goes.still (cause failed);
         still = λ other. stays other ∙ goes.still;

@@ -1,5 +1,5 @@
 -- What a reader took, arrival after arrival, and how that fits its source once the input has ended.
-use Rattle.std.proofs.Common.{◌≡◌, ℕ, ◌+◌, ◌≤◌, length, true, false, List, [], ◌∷◌, ◌++◌, refl, sym, subst, ap, ◌∙◌, append-nil, append_assoc, Option, Some, None, inl, inr, take}
+use Rattle.std.proofs.Common.{◌≡◌, ℕ, ◌+◌, length, true, false, List, [], ◌∷◌, ◌++◌, refl, sym, subst, ap, ◌∙◌, append-nil, append_assoc, Option, Some, None, inl, inr, take}
 use Rattle.savi_kinds.specs.declared.plan.Format.{Format}
 use Rattle.savi_kinds.specs.declared.plan.Format.TheVariants as forms
 use Rattle.savi_kinds.specs.declared.entry.How.{How}
@@ -16,7 +16,7 @@ use Rattle.stream_io.specs.Readers as streams
 use Rattle.input_read.specs.Readers.{Answers, HasFailed, IsNew}
 use Rattle.input_read.specs.declared.reader.InputReader.{InputReader}
 use Rattle.input_read.specs.declared.reader.InputReader.TheVariants as readers
-use Rattle.port_reader.specs.Inputs.{FitsRead, IsReadBroken, IsReadWhole, record_reach}
+use Rattle.port_reader.specs.Inputs.{FitsRead, IsNearInputFault, IsReadBroken, IsReadWhole}
 use Rattle.port_reader.specs.Progress.{HasRead, octets_taken, input_form}
 
 -- one arrival was read
@@ -64,8 +64,8 @@ new_taken forms.Pcap (readers.Stream state) new = absurd new
 new_taken forms.Stream (readers.Pcap state) new = absurd new
 new_taken forms.Stream (readers.Stream state) new = ap streams.octets_taken new
 
--- and no more from a place at fault on than of one record
-pub fault_near : (at place : ℕ) (old new : InputReader) (gave buf : List ℕ) (left : Option (List ℕ)) → Answers old new gave buf left (next.Malformed at) → hows.Malformed at ≡ hows.Malformed place → octets_taken old + length gave ≤ place + record_reach (input_form old)
+-- and no more from a place at fault on than there may be of one record
+pub fault_near : (at place : ℕ) (old new : InputReader) (gave buf : List ℕ) (left : Option (List ℕ)) → Answers old new gave buf left (next.Malformed at) → hows.Malformed at ≡ hows.Malformed place → IsNearInputFault (input_form old) place (octets_taken old + length gave) left
 fault_near at place (readers.Pcap old) (readers.Pcap new) gave buf left answers same = answers.near place same
 fault_near at place (readers.Stream old) (readers.Stream new) gave buf left answers same = answers.2 place same
 fault_near at place (readers.Pcap old) (readers.Stream new) gave buf left answers same = absurd answers

@@ -46,7 +46,8 @@ abbrev pub AreReadStamped : Format → Option (List ℕ) → Option (List ℕ) �
 AreReadStamped Pcap read read_more arrivals = read_more ≡ read
 AreReadStamped Stream read read_more arrivals = AddsReadings read read_more (stamps_in arrivals)
 
--- how many octets the reader of a form takes of one record at most, and with it of those behind
-abbrev pub record_reach : Format → ℕ
-record_reach Pcap = captures.longest_record
-record_reach Stream = streams.longest_reach
+-- So many octets were taken of an input of this form that is at fault at this place: no more than the longest record has from
+-- there on, and where octets are left no more than the front that is at fault; of a stream with the piece that came last.
+abbrev pub IsNearInputFault : Format → ℕ → ℕ → Option (List ℕ) → Type 0
+IsNearInputFault Pcap at taken left = captures.IsNearFault at taken left
+IsNearInputFault Stream at taken left = streams.IsNearStreamFault at taken left

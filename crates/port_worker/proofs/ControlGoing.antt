@@ -1,5 +1,5 @@
 -- What the turn of control makes of all outputs.
-use Rattle.std.proofs.Common.{◌≡◌, ◌≢◌, ◌≤◌, ◌+◌, ◌==◌, not, ℕ, suc, Bool, true, false, if◌then◌else◌, List, [], ◌∷◌, ◌++◌, length, get_or, refl, sym, ap, ◌∙◌, subst, arith, inl, inr, append-nil, append_assoc, length-append, Option, Some, None}
+use Rattle.std.proofs.Common.{◌≡◌, ◌≢◌, ◌+◌, ◌==◌, not, ℕ, suc, Bool, true, false, if◌then◌else◌, List, [], ◌∷◌, ◌++◌, length, get_or, refl, sym, ap, ◌∙◌, subst, arith, inl, inr, append-nil, append_assoc, length-append, Option, Some, None}
 use Rattle.std.specs.Option.{is_some}
 use Rattle.std.proofs.lemmas.Bool.{false≢true}
 use Rattle.std.proofs.lemmas.Bool.Decides.{nat_tests}
@@ -12,6 +12,7 @@ use Rattle.savi_kinds.specs.declared.entry.How.TheVariants as hows
 use Rattle.savi_kinds.specs.Ports.{number_of}
 use Rattle.savi_kinds.specs.ValidPlan.{numbers_of}
 use Rattle.savi_ends.specs.Faults.{Rose}
+use Rattle.savi_ends.proofs.FaultCounts.{rose_since}
 use Rattle.cli_lang.specs.Arrivals.{Line}
 use Rattle.hist_store.specs.Rows.{Row}
 use Rattle.checkpoint.specs.Bases.{Base}
@@ -282,9 +283,9 @@ module _ {S K C : Type 0} (written : K → Option (List ℕ)) (faults : K → �
         )
 
     -- it could not be written
-    stopped : mid ≡ with_event plan base entry (End Control hows.Unwritten) → TookPieces (written sink) (written sink_new) (shown plan base entry ∷ []) (Some 0) → faults start ≤ faults sink → Rose (faults sink) (faults sink_new) → RepliesRunOn written faults plan run start sink → known.control ≡ None
+    stopped : mid ≡ with_event plan base entry (End Control hows.Unwritten) → TookPieces (written sink) (written sink_new) (shown plan base entry ∷ []) (Some 0) → Rose (faults sink) (faults sink_new) → RepliesRunOn written faults plan run start sink → known.control ≡ None
         → (later : Stops) × AreOutputs written faults plan later (run_with run now) first new × AreReplies written faults plan (run_with run now) start sink_new later.control × AllFollow plan known later run (run_with run now) (λ stops. entered_in plan stops (Commands line) run)
-    stopped mid_is took later rose was none =
+    stopped mid_is took rose was none =
         let whole = count + 0 in
         let mid_replies : replies_at mid ≡ replies_at entry = ap (λ (l : List (List ℕ)). replies_in plan run.closed ++ l) (ap (λ (l : List Row). replies plan base l) mid_is ∙ append-nil (replies plan base entry)) in
         let all_now : replies_at now ≡ replies_at entry = replies_now ∙ mid_replies in
@@ -298,7 +299,7 @@ module _ {S K C : Type 0} (written : K → Option (List ℕ)) (faults : K → �
             failed = end_now ∙ end_mid;
             took = subst (λ (l : List (List ℕ)). TookPieces (written start) (written sink_new) l (Some whole)) (sym (all_now ∙ entry_replies))
                 (took_until (written start) (written sink) (written sink_new) (replies_in plan (segments_of run)) (shown plan base entry ∷ []) 0 was.took took);
-            rose = omega (arith, rose, later);
+            rose = rose_since (faults start) (faults sink) (faults sink_new) was.still rose;
           },
           record {
             before = λ stops allowed. record {
@@ -322,17 +323,17 @@ module _ {S K C : Type 0} (written : K → Option (List ℕ)) (faults : K → �
   Gone first start known =
       (later : Stops) × AreOutputs written faults plan later (run_with run now) first new × AreReplies written faults plan (run_with run now) start sink_new later.control × AllFollow plan known later run (run_with run now) (λ stops. entered_in plan stops (Commands line) run)
 
-  gone_on : (first : List (PortEnds S K C)) (start : K) (known : Stops) → AreOutputs written faults plan known run first old → faults start ≤ faults sink → known.control ≡ None → RepliesRunOn written faults plan run start sink → IsAnswered written faults plan base (is_quit line) entry mid sink sink_new
+  gone_on : (first : List (PortEnds S K C)) (start : K) (known : Stops) → AreOutputs written faults plan known run first old → known.control ≡ None → RepliesRunOn written faults plan run start sink → IsAnswered written faults plan base (is_quit line) entry mid sink sink_new
       → Gone first start known
-  gone_on first start known outputs later none was (inl whole) =
+  gone_on first start known outputs none was (inl whole) =
       went_on first start known outputs (keeps_answered written faults plan base run.past mid line sink sink_new (inl whole)) whole.made whole.took whole.still was none
-  gone_on first start known outputs later none was (inr front) =
-      stopped first start known outputs (keeps_answered written faults plan base run.past mid line sink sink_new (inr front)) front.made front.took later front.rose was none
+  gone_on first start known outputs none was (inr front) =
+      stopped first start known outputs (keeps_answered written faults plan base run.past mid line sink sink_new (inr front)) front.made front.took front.rose was none
 
-  gone_by : (first : List (PortEnds S K C)) (start : K) (known : Stops) (stop : Option ℕ) → known.control ≡ stop → AreOutputs written faults plan known run first old → faults start ≤ faults sink → AreReplies written faults plan run start sink stop
+  gone_by : (first : List (PortEnds S K C)) (start : K) (known : Stops) (stop : Option ℕ) → known.control ≡ stop → AreOutputs written faults plan known run first old → AreReplies written faults plan run start sink stop
       → IsAnswered written faults plan base (is_quit line) entry mid sink sink_new → Gone first start known
-  gone_by first start known None is outputs later was answered = gone_on first start known outputs later is was answered
-  gone_by first start known (Some whole) is outputs later was answered = absurd (false≢true (sym running ∙ shows base run.past (control_pass plan) was.ended))
+  gone_by first start known None is outputs was answered = gone_on first start known outputs is was answered
+  gone_by first start known (Some whole) is outputs was answered = absurd (false≢true (sym running ∙ shows base run.past (control_pass plan) was.ended))
 
   pub line_goes : IsAnswered written faults plan base (is_quit line) entry mid sink sink_new → AllOutputsGoOn written faults plan run (run_with run now) sink sink_new old new (λ stops. entered_in plan stops (Commands line) run)
-  line_goes answered first start known outputs later answers = gone_by first start known known.control refl outputs later answers answered
+  line_goes answered first start known outputs later answers = gone_by first start known known.control refl outputs answers answered

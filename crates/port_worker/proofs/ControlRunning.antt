@@ -4,6 +4,7 @@ use Rattle.savi_kinds.specs.declared.plan.Plan.{Plan}
 use Rattle.savi_kinds.specs.declared.entry.How.{How}
 use Rattle.savi_kinds.specs.declared.entry.How.TheVariants as hows
 use Rattle.savi_ends.specs.Faults.{Rose}
+use Rattle.savi_ends.proofs.FaultCounts.{rose_since}
 use Rattle.cli_lang.specs.Readers.{State}
 use Rattle.hist_store.specs.Rows.{Row}
 use Rattle.savi_history.specs.ControlInputs.{control_end}
@@ -20,7 +21,6 @@ use Rattle.port_worker.specs.ControlServed.{IsControlInputOf}
 use Rattle.port_worker.specs.LineInputs.{IsControlHeard, IsControlKnown, IsHeard, IsHeardAs, IsLineKnown, IsLineSound}
 use Rattle.port_worker.specs.Used.{IsUsed}
 use Rattle.port_worker.proofs.ControlProgress.{HeardOut, HeardSoFar, control_head, heard_look, line_head}
-use Rattle.port_worker.proofs.FaultCounts.{rose_before, rose_later}
 use Rattle.port_worker.proofs.Later.{gave_again}
 use Rattle.port_worker.proofs.LinesLeft.{lines_left, line_less}
 use Rattle.port_worker.proofs.RowsHeld.{ControlKept, rows_of}
@@ -128,6 +128,9 @@ replied_kept written sink_faults plan run now start sink (Some whole) same was =
 unread_failed : (a : LineAhead) → a ≡ ahead.Unread → a ≡ ahead.Failed → ⊥
 unread_failed a unread failed = cc
 
+not_failed : (ending : Option How) → ending ≡ None → ending ≡ Some hows.Failed → ⊥
+not_failed ending none failed = cc
+
 -- a read leaves no more to come
 weighs_read : (old new : State) (gave buf : List ℕ) (rest : Option (List ℕ)) (a : LineAhead) → IsHeardAs old new gave buf rest a → line_weight new a ≤ line_weight old ahead.Unread
 weighs_read old new gave buf rest ahead.Unread is = absurd is
@@ -153,6 +156,7 @@ module _ {S K C : Type 0} (left : S → Option (List ℕ)) (written : K → Opti
       let open_now : new.ahead ≡ ahead.Done → ⊥ = λ done. unread_done old.ahead unread (looked.done done) in
       let so_far : HeardSoFar left (rows_of run) first old taken = subst (λ (a : LineAhead). LineProgress left plan (rows_of run) first old taken a) unread runs.progress in
       let running : has_ended_in plan (control_pass plan) run ≡ false = subst (λ (a : LineAhead). Agrees plan run (control_pass plan) (line_head old.buf a)) unread runs.agrees in
+      let goes_on : control_end (rows_of run) ≡ Some hows.Failed → ⊥ = not_failed (control_end (rows_of run)) so_far.running in
       record {
         used = record {
           gave = gave_again (left first.ends.source) (left old.ends.source) (left new.ends.source) runs.used.gave looked.gave;
@@ -165,8 +169,10 @@ module _ {S K C : Type 0} (left : S → Option (List ℕ)) (written : K → Opti
         agrees = open_from plan run (control_pass plan) new.buf new.ahead open_now running;
         progress = so_far_as left plan (rows_of run) first new taken new.ahead open_now (heard_look left source_faults (rows_of run) first old new taken unread looked so_far);
         replied = subst (λ (k : K). AreReplies written sink_faults plan run first.ends.sink k stop) (sym looked.sink) runs.replied;
-        failed = λ failed. rose_later (source_faults first.ends.source) (source_faults old.ends.source) (source_faults new.ends.source) runs.source (looked.failed unread failed);
-        broken = λ ended_so. rose_before (source_faults first.ends.source) (source_faults old.ends.source) (source_faults new.ends.source) (runs.broken ended_so) looked.later;
+        failed = λ failed.
+            rose_since (source_faults first.ends.source) (source_faults old.ends.source) (source_faults new.ends.source)
+            (runs.still (unread_failed old.ahead unread) goes_on) (looked.failed unread failed);
+        broken = λ ended_so. absurd (goes_on ended_so);
         still = λ other others. looked.still other ∙ runs.still (λ failed. unread_failed old.ahead unread failed) others;
       }
 

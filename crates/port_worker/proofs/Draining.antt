@@ -218,7 +218,7 @@ module _ {S K C : Type 0} (written : K → Option (List ℕ)) (faults : K → �
 
     drain : DrainStep written faults first.plan x.port (before.later.ports (number_of x.port)) run now.past next.past o.ends.sink y.ends.sink made
     drain =
-        drain_step written faults first.plan run now.past next.past o.ends.sink x y (before.later.ports (number_of x.port)) was.later
+        drain_step written faults first.plan run now.past next.past o.ends.sink x y (before.later.ports (number_of x.port))
         (subst (λ (p : Port). IsOutput written faults first.plan (run_with run now.past) (number_of p) o.ends.sink x.ends.sink (before.later.ports (number_of p))) (sym was.port) was.output) drained_in
 
     abbrev step : PortStep written faults first.plan x.port run next.past o.ends.sink y.ends.sink made

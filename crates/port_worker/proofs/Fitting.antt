@@ -11,7 +11,8 @@ use Rattle.savi_kinds.specs.Arrivals.{Arrival}
 use Rattle.savi_kinds.specs.Arrivals as arrivals
 use Rattle.savi_ends.specs.Faults.{Rose}
 use Rattle.savi_ends.specs.Octets.{Takes}
-use Rattle.pcap_io.specs.Readers.{State, Comes, HasRead, longest_record, record_place}
+use Rattle.savi_ends.proofs.FaultCounts.{rose_since}
+use Rattle.pcap_io.specs.Readers.{State, Comes, HasRead, IsNearFault, record_place}
 use Rattle.pcap_io.specs.Runs.{ended}
 use Rattle.pcap_io.proofs.CallsJoined.{has_read_more}
 use Rattle.hist_store.specs.Rows.{Row}
@@ -27,10 +28,9 @@ use Rattle.port_worker.specs.SentFrames.{OnlySink}
 use Rattle.port_worker.specs.Steps.{IsStepped, ends_input, ahead_after}
 use Rattle.port_worker.specs.Replays.{IsUnread}
 use Rattle.port_worker.specs.Served.{AreInput}
-use Rattle.port_worker.specs.Used.{GaveFew}
+use Rattle.port_worker.specs.Used.{GaveNear}
 use Rattle.port_worker.specs.Pairs.{EachPair}
 use Rattle.port_worker.proofs.Joining.{IsRunning, front_none, takes_twice, read_behind}
-use Rattle.port_worker.proofs.FaultCounts.{rose_later, rose_before}
 use Rattle.port_worker.proofs.RowsHeld.{IsHeld}
 
 -- what was taken from the source so far is what was entered and what is known, and so much of the input has ended
@@ -43,21 +43,21 @@ FitsAhead first now gave buf before after entered_so ending (ahead.Malformed at)
 FitsAhead first now gave buf before after entered_so ending ahead.Failed = (ending ≡ None) × IsBroken (AreInput (Comes first) false) before after entered_so
 FitsAhead first now gave buf before after entered_so ending ahead.Done = Fits (AreInput (Comes first)) before after entered_so ending
 
--- How many octets were taken while the input goes on; from a place at fault on no more than one record has.
-abbrev pub IsNear : State → State → List ℕ → Option How → Ahead → Type 0
-IsNear first now gave ending ahead.Unread = record_place now ≡ record_place first + length gave
-IsNear first now gave ending (ahead.Frame stamp len) = record_place now ≡ record_place first + length gave
-IsNear first now gave ending (ahead.Long stamp len) = record_place now ≡ record_place first + length gave
-IsNear first now gave ending ahead.End = Unit {0}
-IsNear first now gave ending (ahead.Malformed at) = length gave ≤ at + longest_record
-IsNear first now gave ending ahead.Failed = Unit {0}
-IsNear first now gave ending ahead.Done = (at : ℕ) → ending ≡ Some (hows.Malformed at) → length gave ≤ at + longest_record
+-- How many octets were taken while the input goes on; from a place at fault on no more than of one record.
+abbrev pub IsNear : State → State → List ℕ → Option (List ℕ) → Option How → Ahead → Type 0
+IsNear first now gave after ending ahead.Unread = record_place now ≡ record_place first + length gave
+IsNear first now gave after ending (ahead.Frame stamp len) = record_place now ≡ record_place first + length gave
+IsNear first now gave after ending (ahead.Long stamp len) = record_place now ≡ record_place first + length gave
+IsNear first now gave after ending ahead.End = Unit {0}
+IsNear first now gave after ending (ahead.Malformed at) = IsNearFault at (length gave) after
+IsNear first now gave after ending ahead.Failed = Unit {0}
+IsNear first now gave after ending ahead.Done = (at : ℕ) → ending ≡ Some (hows.Malformed at) → IsNearFault at (length gave) after
 
 pub record FitsSoFar {S K C : Type 0} (left : S → Option (List ℕ)) (source_faults : S → ℕ) (past : List Row) (old new : PortEnds S K C) : Type 0 where
   pub gave : List ℕ
   pub takes : Takes (left old.ends.source) (left new.ends.source) gave
   pub fits : FitsAhead old.reader new.reader gave new.buf (left old.ends.source) (left new.ends.source) (arrived (number_of old.port) past) (input_end (number_of old.port) past) new.ahead
-  pub near : IsNear old.reader new.reader gave (input_end (number_of old.port) past) new.ahead
+  pub near : IsNear old.reader new.reader gave (left new.ends.source) (input_end (number_of old.port) past) new.ahead
   -- a read that failed, entered or not, was a fault of the source
   pub later : source_faults old.ends.source ≤ source_faults new.ends.source
   pub failed : new.ahead ≡ ahead.Failed → Rose (source_faults old.ends.source) (source_faults new.ends.source)
@@ -102,34 +102,44 @@ read_more left past first old new one two ahead.Done a_is take_one take_two none
 known_same : {S K C : Type 0} (left : S → Option (List ℕ)) (source_faults : S → ℕ) (past : List Row) (first old new : PortEnds S K C) (a : Ahead) → old.ahead ≡ a → IsReadAhead a → (IsReadAhead old.ahead → new ≡ old) → FitsSoFar left source_faults past first old → FitsSoFar left source_faults past first new
 known_same {S} {K} {C} left source_faults past first old new a is known same so_far = subst (λ (p : PortEnds S K C). FitsSoFar left source_faults past first p) (sym (same (subst IsReadAhead (sym is) known))) so_far
 
-pub near_more : (first old new : State) (one two buf : List ℕ) (left : Option (List ℕ)) (ending : Option How) (a : Ahead) → record_place old ≡ record_place first + length one → IsReadAs old new two buf left a → IsNear first new (one ++ two) ending a
+pub near_more : (first old new : State) (one two buf : List ℕ) (left : Option (List ℕ)) (ending : Option How) (a : Ahead) → record_place old ≡ record_place first + length one → IsReadAs old new two buf left a → IsNear first new (one ++ two) left ending a
 near_more first old new one two buf left ending ahead.Unread taken is = absurd is
 near_more first old new one two buf left ending (ahead.Frame stamp len) taken is =
     let now : record_place new ≡ record_place old + length two = ap record_place is.running.1 in omega (arith, now, taken, length-append one two)
 near_more first old new one two buf left ending (ahead.Long stamp len) taken is =
     let now : record_place new ≡ record_place old + length two = ap record_place is.running.1 in omega (arith, now, taken, length-append one two)
 near_more first old new one two buf left ending ahead.End taken is = tt
-near_more first old new one two buf left ending (ahead.Malformed at) taken is = let few = is.near at refl in omega (arith, few, taken, length-append one two)
+near_more first old new one two buf left ending (ahead.Malformed at) taken is =
+    let few = is.near at refl in (
+      omega (arith, few.0, taken, length-append one two),
+      λ some. let front = few.1 some in omega (arith, front, taken, length-append one two),
+    )
 near_more first old new one two buf left ending ahead.Failed taken is = tt
 near_more first old new one two buf left ending ahead.Done taken is = absurd is
 
 unread_still : (a : Ahead) → a ≡ ahead.Unread → a ≡ ahead.Failed → ⊥
 unread_still a unread failed = cc
 
+none_ended : {X : Type 0} {x : X} → None ≡ Some x → ⊥
+none_ended is = cc
+
 look_one : {S K C : Type 0} (left : S → Option (List ℕ)) (source_faults : S → ℕ) (past : List Row) (first old new : PortEnds S K C) (a : Ahead) → old.ahead ≡ a → IsLooked left source_faults old new → FitsSoFar left source_faults past first old → FitsSoFar left source_faults past first new
 look_one left source_faults past first old new ahead.Unread is looked so_far =
     let more = looked.read is in
     let fits : FitsAhead first.reader old.reader so_far.gave old.buf (left first.ends.source) (left old.ends.source) (arrived (number_of first.port) past) (input_end (number_of first.port) past) ahead.Unread =
     subst (λ (b : Ahead). FitsAhead first.reader old.reader so_far.gave old.buf (left first.ends.source) (left old.ends.source) (arrived (number_of first.port) past) (input_end (number_of first.port) past) b) is so_far.fits in
+    let goes_on : input_end (number_of first.port) past ≢ Some hows.Failed = λ ended_so. none_ended (sym fits.0 ∙ ended_so) in
     record {
       gave = so_far.gave ++ more.0;
       takes = takes_twice (left first.ends.source) (left old.ends.source) (left new.ends.source) so_far.gave more.0 so_far.takes more.1;
       fits = read_more left past first old new so_far.gave more.0 new.ahead refl so_far.takes more.1 fits.0 fits.1 more.2;
       near = near_more first.reader old.reader new.reader so_far.gave more.0 new.buf (left new.ends.source) (input_end (number_of first.port) past) new.ahead
-          (subst (λ (b : Ahead). IsNear first.reader old.reader so_far.gave (input_end (number_of first.port) past) b) is so_far.near) more.2;
+          (subst (λ (b : Ahead). IsNear first.reader old.reader so_far.gave (left old.ends.source) (input_end (number_of first.port) past) b) is so_far.near) more.2;
       later = omega (arith, so_far.later, looked.later);
-      failed = λ failed. rose_later (source_faults first.ends.source) (source_faults old.ends.source) (source_faults new.ends.source) so_far.later (looked.failed is failed);
-      broken = λ ended_so. rose_before (source_faults first.ends.source) (source_faults old.ends.source) (source_faults new.ends.source) (so_far.broken ended_so) looked.later;
+      failed = λ failed.
+          rose_since (source_faults first.ends.source) (source_faults old.ends.source) (source_faults new.ends.source)
+          (so_far.still (unread_still old.ahead is) goes_on) (looked.failed is failed);
+      broken = λ ended_so. absurd (goes_on ended_so);
       still = λ other others. looked.still other ∙ so_far.still (λ failed. unread_still old.ahead is failed) others;
     }
 look_one left source_faults past first old new (ahead.Frame stamp len) is looked so_far = known_same left source_faults past first old new (ahead.Frame stamp len) is tt looked.same so_far
@@ -148,9 +158,6 @@ fits_looked left source_faults past first old new so_far looked = record {
 
 -- the start
 
-none_ended : {X : Type 0} {x : X} → None ≡ Some x → ⊥
-none_ended is = cc
-
 start_one : {S K C : Type 0} (left : S → Option (List ℕ)) (written : K → Option (List ℕ)) (source_faults : S → ℕ) (faults : K → ℕ) (past : List Row) (old new : PortEnds S K C) → HoldsSame (number_of old.port) [] past → IsUnread old → OnlySink written faults old new → FitsSoFar left source_faults past old new
 start_one {S} {K} {C} left written source_faults faults past old new holds unread only =
     let start : FitsSoFar left source_faults past old (record old { ends = record old.ends { sink = new.ends.sink } }) =
@@ -158,7 +165,7 @@ start_one {S} {K} {C} left written source_faults faults past old new holds unrea
       gave = [];
       takes = sym (front_none (left old.ends.source));
       fits = rw (unread.0, holds.arrivals_same, holds.end_same) (refl, λ seen rest later ending comes. comes);
-      near = subst (λ (a : Ahead). IsNear old.reader old.reader [] (input_end (number_of old.port) past) a) (sym unread.0) (omega arith);
+      near = subst (λ (a : Ahead). IsNear old.reader old.reader [] (left old.ends.source) (input_end (number_of old.port) past) a) (sym unread.0) (omega arith);
       later = omega arith;
       failed = λ failed. absurd (unread_still old.ahead unread.0 failed);
       still = λ other others. refl;
@@ -186,7 +193,7 @@ same_one {S} {K} {C} left written source_faults faults past now first old new st
       gave = so_far.gave;
       takes = so_far.takes;
       fits = rw (holds.arrivals_same, holds.end_same) so_far.fits;
-      near = subst (λ (e : Option How). IsNear first.reader old.reader so_far.gave e old.ahead) (sym holds.end_same) so_far.near;
+      near = subst (λ (e : Option How). IsNear first.reader old.reader so_far.gave (left old.ends.source) e old.ahead) (sym holds.end_same) so_far.near;
       later = so_far.later;
       failed = so_far.failed;
       broken = λ ended_so. so_far.broken (sym holds.end_same ∙ ended_so);
@@ -284,37 +291,37 @@ never_failed false a is failed = cc
 
 -- behind a turn
 
-near_arrival : (first reader : State) (gave : List ℕ) (ending : Option How) (port : Port) (arrival : Arrival) (b : Ahead) (turn : Turn) → turn ≡ Arrives port arrival → b ≡ ahead_after (ends_input turn) → record_place reader ≡ record_place first + length gave
-    → IsNear first reader gave ending b
-near_arrival first reader gave ending port arrival b turn turn_is b_is taken =
+near_arrival : (first reader : State) (gave : List ℕ) (after : Option (List ℕ)) (ending : Option How) (port : Port) (arrival : Arrival) (b : Ahead) (turn : Turn) → turn ≡ Arrives port arrival → b ≡ ahead_after (ends_input turn) → record_place reader ≡ record_place first + length gave
+    → IsNear first reader gave after ending b
+near_arrival first reader gave after ending port arrival b turn turn_is b_is taken =
     let b_now : b ≡ ahead.Unread = b_is ∙ ap (λ (t : Turn). ahead_after (ends_input t)) turn_is in
-    subst (λ (c : Ahead). IsNear first reader gave ending c) (sym b_now) taken
+    subst (λ (c : Ahead). IsNear first reader gave after ending c) (sym b_now) taken
 
-near_end : (first reader : State) (gave : List ℕ) (past now : List Row) (port : Port) (how : How) (b : Ahead) (turn : Turn) → turn ≡ Ends (Ingress port) how → b ≡ ahead_after (ends_input turn) → IsHeld turn past now → ((at : ℕ) → how ≡ hows.Malformed at → length gave ≤ at + longest_record)
-    → IsNear first reader gave (input_end (number_of port) now) b
-near_end first reader gave past now port how b turn turn_is b_is held few =
+near_end : (first reader : State) (gave : List ℕ) (after : Option (List ℕ)) (past now : List Row) (port : Port) (how : How) (b : Ahead) (turn : Turn) → turn ≡ Ends (Ingress port) how → b ≡ ahead_after (ends_input turn) → IsHeld turn past now → ((at : ℕ) → how ≡ hows.Malformed at → IsNearFault at (length gave) after)
+    → IsNear first reader gave after (input_end (number_of port) now) b
+near_end first reader gave after past now port how b turn turn_is b_is held few =
     let b_now : b ≡ ahead.Done = b_is ∙ ap (λ (t : Turn). ahead_after (ends_input t)) turn_is in
-    subst (λ (c : Ahead). IsNear first reader gave (input_end (number_of port) now) c) (sym b_now)
+    subst (λ (c : Ahead). IsNear first reader gave after (input_end (number_of port) now) c) (sym b_now)
     (λ at is. few at (same_end how at (sym (ends_so past now port how turn turn_is held).ended_so ∙ is)))
   where
     same_end : (how : How) (at : ℕ) → Some how ≡ Some (hows.Malformed at) → how ≡ hows.Malformed at
     same_end how at e = cc
 
-near_entered : (first reader : State) (gave : List ℕ) (past now : List Row) (port : Port) (buf : List ℕ) (a b : Ahead) (turn : Turn) → turn_ahead port buf a ≡ Some turn → b ≡ ahead_after (ends_input turn) → IsHeld turn past now
-    → IsNear first reader gave (input_end (number_of port) past) a → IsNear first reader gave (input_end (number_of port) now) b
-near_entered first reader gave past now port buf ahead.Unread b turn is b_is held near = cc
-near_entered first reader gave past now port buf (ahead.Frame stamp len) b turn is b_is held near =
-    let arrival = arrivals.Frame stamp (take len buf) in near_arrival first reader gave (input_end (number_of port) now) port arrival b turn (same_turn (Arrives port arrival) turn is) b_is near
-near_entered first reader gave past now port buf (ahead.Long stamp len) b turn is b_is held near =
-    let arrival = arrivals.Long stamp len in near_arrival first reader gave (input_end (number_of port) now) port arrival b turn (same_turn (Arrives port arrival) turn is) b_is near
-near_entered first reader gave past now port buf ahead.End b turn is b_is held near =
-    near_end first reader gave past now port hows.End b turn (same_turn (Ends (Ingress port) hows.End) turn is) b_is held (λ at same. cc)
-near_entered first reader gave past now port buf (ahead.Malformed at) b turn is b_is held near =
-    near_end first reader gave past now port (hows.Malformed at) b turn (same_turn (Ends (Ingress port) (hows.Malformed at)) turn is) b_is held
-    (λ place same. let e : at ≡ place = cc in omega (arith, near, e))
-near_entered first reader gave past now port buf ahead.Failed b turn is b_is held near =
-    near_end first reader gave past now port hows.Failed b turn (same_turn (Ends (Ingress port) hows.Failed) turn is) b_is held (λ at same. cc)
-near_entered first reader gave past now port buf ahead.Done b turn is b_is held near = cc
+near_entered : (first reader : State) (gave : List ℕ) (after : Option (List ℕ)) (past now : List Row) (port : Port) (buf : List ℕ) (a b : Ahead) (turn : Turn) → turn_ahead port buf a ≡ Some turn → b ≡ ahead_after (ends_input turn) → IsHeld turn past now
+    → IsNear first reader gave after (input_end (number_of port) past) a → IsNear first reader gave after (input_end (number_of port) now) b
+near_entered first reader gave after past now port buf ahead.Unread b turn is b_is held near = cc
+near_entered first reader gave after past now port buf (ahead.Frame stamp len) b turn is b_is held near =
+    let arrival = arrivals.Frame stamp (take len buf) in near_arrival first reader gave after (input_end (number_of port) now) port arrival b turn (same_turn (Arrives port arrival) turn is) b_is near
+near_entered first reader gave after past now port buf (ahead.Long stamp len) b turn is b_is held near =
+    let arrival = arrivals.Long stamp len in near_arrival first reader gave after (input_end (number_of port) now) port arrival b turn (same_turn (Arrives port arrival) turn is) b_is near
+near_entered first reader gave after past now port buf ahead.End b turn is b_is held near =
+    near_end first reader gave after past now port hows.End b turn (same_turn (Ends (Ingress port) hows.End) turn is) b_is held (λ at same. cc)
+near_entered first reader gave after past now port buf (ahead.Malformed at) b turn is b_is held near =
+    near_end first reader gave after past now port (hows.Malformed at) b turn (same_turn (Ends (Ingress port) (hows.Malformed at)) turn is) b_is held
+    (λ place same. let e : at ≡ place = cc in subst (λ (n : ℕ). IsNearFault n (length gave) after) e near)
+near_entered first reader gave after past now port buf ahead.Failed b turn is b_is held near =
+    near_end first reader gave after past now port hows.Failed b turn (same_turn (Ends (Ingress port) hows.Failed) turn is) b_is held (λ at same. cc)
+near_entered first reader gave after past now port buf ahead.Done b turn is b_is held near = cc
 
 -- the end of an input at a failed read that was read
 fails_there : (past now : List Row) (port : Port) (buf : List ℕ) (a : Ahead) (turn : Turn) → turn_ahead port buf a ≡ Some turn → IsHeld turn past now → a ≡ ahead.Failed → input_end (number_of port) now ≡ Some hows.Failed
@@ -342,7 +349,7 @@ here_one {S} {K} {C} left written source_faults faults past now first old new tu
       gave = so_far.gave;
       takes = so_far.takes;
       fits = entered_fits first.reader old.reader so_far.gave old.buf (left first.ends.source) (left old.ends.source) past now first.port old.ahead new.ahead turn turn_first ahead_is held so_far.fits;
-      near = near_entered first.reader old.reader so_far.gave past now first.port old.buf old.ahead new.ahead turn turn_first ahead_is held so_far.near;
+      near = near_entered first.reader old.reader so_far.gave (left old.ends.source) past now first.port old.buf old.ahead new.ahead turn turn_first ahead_is held so_far.near;
       later = so_far.later;
       failed = λ failed. absurd (never_failed (ends_input turn) new.ahead ahead_is failed);
       broken = entered_broken (Rose (source_faults first.ends.source) (source_faults old.ends.source)) past now first.port old.buf old.ahead turn turn_first held so_far.failed so_far.broken;
@@ -383,12 +390,12 @@ abbrev pub IsFit : {S K C : Type 0} → (S → Option (List ℕ)) → List Row �
 IsFit left past old new =
     Fits (AreInput (Comes old.reader)) (left old.ends.source) (left new.ends.source) (arrived (number_of old.port) past) (input_end (number_of old.port) past)
 
--- the source has a fault exactly where the history tells of a failed read, and gave up no more than one record behind a
+-- the source has a fault exactly where the history tells of a failed read, and gave up no more than of one record behind a
 -- place at fault
 pub record HasCause {S K C : Type 0} (left : S → Option (List ℕ)) (source_faults : S → ℕ) (past : List Row) (old new : PortEnds S K C) : Type 0 where
   pub broken : input_end (number_of old.port) past ≡ Some hows.Failed → Rose (source_faults old.ends.source) (source_faults new.ends.source)
   pub still : input_end (number_of old.port) past ≢ Some hows.Failed → source_faults new.ends.source ≡ source_faults old.ends.source
-  pub near : (at : ℕ) → input_end (number_of old.port) past ≡ Some (hows.Malformed at) → GaveFew (left old.ends.source) (left new.ends.source) (at + longest_record)
+  pub near : (at : ℕ) → input_end (number_of old.port) past ≡ Some (hows.Malformed at) → GaveNear (left old.ends.source) (left new.ends.source) at
 
 pub fits_finished : {S K C : Type 0} (left : S → Option (List ℕ)) (source_faults : S → ℕ) (first old : List (PortEnds S K C)) (past now : List Row) → EachPair (FitsSoFar left source_faults past) first old
     → ((k : ℕ) (d : PortEnds S K C) → k < length old → (get_or old k d).ahead ≡ ahead.Done) → ((n : ℕ) → HoldsSame n past now) → EachPair (IsFit left now) first old
@@ -420,7 +427,7 @@ causes_finished left source_faults first old past now so_far done same = record 
         near = λ at ended_so. (
           one.gave,
           one.takes,
-          subst (λ (a : Ahead). IsNear (get_or first k d).reader (get_or old k d).reader one.gave (input_end n past) a) (done k d (omega (arith, so_far.size))) one.near at (sym (same n) ∙ ended_so),
+          subst (λ (a : Ahead). IsNear (get_or first k d).reader (get_or old k d).reader one.gave (left (get_or old k d).ends.source) (input_end n past) a) (done k d (omega (arith, so_far.size))) one.near at (sym (same n) ∙ ended_so),
         );
       };
 }

@@ -1,7 +1,6 @@
 pub mod SoFar
 pub mod FirstOf
 pub mod Looks
-pub mod FaultCounts
 pub mod Pieces
 pub mod KeptOutputs
 pub mod PortSteps

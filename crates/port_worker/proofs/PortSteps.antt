@@ -11,6 +11,7 @@ use Rattle.savi_kinds.specs.declared.entry.How.TheVariants as hows
 use Rattle.savi_kinds.specs.Ports.{number_of}
 use Rattle.savi_ends.specs.Octets.{IsFront}
 use Rattle.savi_ends.specs.Faults.{Rose}
+use Rattle.savi_ends.proofs.FaultCounts.{rose_since}
 use Rattle.pcap_io.specs.Captures.{capture_text}
 use Rattle.hist_store.specs.Rows.{Row}
 use Rattle.checkpoint.specs.Bases.{Base}
@@ -245,7 +246,7 @@ module _ {K : Type 0} (written : K → Option (List ℕ)) (faults : K → ℕ) (
         }
 
     -- a write failed
-    module _ (whole : ℕ) (took : TookPieces (written old) (written new) (records items) (Some whole)) (rose : Rose (faults old) (faults new)) (later_faults : faults first ≤ faults old) (was : RunsOn written faults plan (run_with run past) q first old) where
+    module _ (whole : ℕ) (took : TookPieces (written old) (written new) (records items) (Some whole)) (rose : Rose (faults old) (faults new)) (was : RunsOn written faults plan (run_with run past) q first old) where
       abbrev done : ℕ
       done = length (pieces sent_before) + whole
 
@@ -284,7 +285,7 @@ module _ {K : Type 0} (written : K → Option (List ℕ)) (faults : K → ℕ) (
             quiet = quiet_failed plan base port mid;
             took = subst (λ (l : List (List ℕ)). TookPieces (written first) (written new) l (Some done)) (sym given_is) took_both;
             fits = fits_failed;
-            rose = omega (arith, rose, later_faults);
+            rose = rose_since (faults first) (faults old) (faults new) was.still rose;
           } in
           let first_is = pieces_past in
           record {
@@ -300,15 +301,15 @@ module _ {K : Type 0} (written : K → Option (List ℕ)) (faults : K → ℕ) (
           }
 
 -- the part of one port in the drains behind an arrival
-pub drain_step : {S K C : Type 0} (written : K → Option (List ℕ)) (faults : K → ℕ) (plan : Plan) (run : Run) (past now : List Row) (first : K) (x y : PortEnds S K C) (known : Option ℕ) → faults first ≤ faults x.ends.sink
+pub drain_step : {S K C : Type 0} (written : K → Option (List ℕ)) (faults : K → ℕ) (plan : Plan) (run : Run) (past now : List Row) (first : K) (x y : PortEnds S K C) (known : Option ℕ)
     → IsOutput written faults plan (run_with run past) (number_of x.port) first x.ends.sink known → IsDrained written faults plan (base_in plan run) past now x y
     → DrainStep written faults plan x.port known run past now first y.ends.sink (λ stops. with_drain plan (base_in plan run) (stops_left plan stops run).ports x.port (length (waiting_at plan (base_in plan run) x.port past)) past)
-drain_step {S} {K} {C} written faults plan run past now first x y known later output (inl quiet) =
+drain_step {S} {K} {C} written faults plan run past now first x y known output (inl quiet) =
     quiet_step written faults plan x.port run past now first x.ends.sink y.ends.sink known quiet.none quiet.past_same (ap (λ (p : PortEnds S K C). p.ends.sink) quiet.same) output
-drain_step written faults plan run past now first x y None later output (inr drained) =
+drain_step written faults plan run past now first x y None output (inr drained) =
     elim drained.wrote as (λ w. DrainStep written faults plan x.port None run past now first y.ends.sink
     (λ stops. with_drain plan (base_in plan run) (stops_left plan stops run).ports x.port (length (waiting_at plan (base_in plan run) x.port past)) past)) [
       | inl all ↦ drained_step written faults plan x.port run past now first x.ends.sink y.ends.sink drained.some all.past all.took all.still output
-      | inr front ↦ failed_step written faults plan x.port run past now first x.ends.sink y.ends.sink drained.some front.whole front.took front.rose later output front.past
+      | inr front ↦ failed_step written faults plan x.port run past now first x.ends.sink y.ends.sink drained.some front.whole front.took front.rose output front.past
     ]
-drain_step written faults plan run past now first x y (Some whole) later output (inr drained) = absurd (drained.some output.quiet)
+drain_step written faults plan run past now first x y (Some whole) output (inr drained) = absurd (drained.some output.quiet)

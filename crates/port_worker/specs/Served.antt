@@ -1,6 +1,6 @@
 -- What a replay was to the ends of control and of the ports: its segments, and at each port what they say of its ends,
 -- before and after.
-use Rattle.std.specs.Prelude.{◌≡◌, ◌≢◌, ℕ, ◌+◌, ◌<◌, ◌≤◌, Bool, true, false, List, length, slice_index_or, Option, Some}
+use Rattle.std.specs.Prelude.{◌≡◌, ◌≢◌, ℕ, ◌<◌, ◌≤◌, Bool, true, false, List, length, slice_index_or, Option, Some}
 use Rattle.savi_kinds.specs.declared.plan.Plan.{Plan}
 use Rattle.savi_kinds.specs.declared.entry.How.{How}
 use Rattle.savi_kinds.specs.declared.entry.How.TheVariants as hows
@@ -8,7 +8,7 @@ use Rattle.savi_kinds.specs.Arrivals.{Arrival, Input}
 use Rattle.cli_lang.specs.Arrivals as control
 use Rattle.savi_ends.specs.declared.world.Ends.{Ends}
 use Rattle.savi_ends.specs.Faults.{Rose}
-use Rattle.pcap_io.specs.Readers.{Comes, longest_record}
+use Rattle.pcap_io.specs.Readers.{Comes}
 use Rattle.hist_store.specs.Rows.{Row}
 use Rattle.savi_history.specs.Fits.{Fits, IsWhole, IsBroken}
 use Rattle.savi_history.specs.PortInputs.{arrived, input_end}
@@ -22,7 +22,7 @@ use Rattle.savi_core.specs.Machines.{port_number_at}
 use Rattle.port_worker.specs.declared.control_ends.ControlEnds.{ControlEnds}
 use Rattle.port_worker.specs.declared.port_ends.PortEnds.{PortEnds}
 use Rattle.port_worker.specs.ControlServed.{ServesControl}
-use Rattle.port_worker.specs.Used.{GaveFew, IsUsed}
+use Rattle.port_worker.specs.Used.{GaveNear, IsUsed}
 
 -- these octets are the input of these arrivals that ends so, where it was seen to end or not
 abbrev pub AreInput : (Bool → List ℕ → Input → Type 0) → Bool → List ℕ → List Arrival → How → Type 0
@@ -42,15 +42,15 @@ IsInputOf Arrives before after ended_so arrivals hows.Unwritten = ⊥
 IsInputOf Arrives before after ended_so arrivals hows.Paused = ⊥
 
 -- What segments were to the ends of the port of this number. The octets of the source are this input, and what it gave up
--- fits what the segments hold of it; from a place at fault on it gave up no more than one record may have. The sink took the
--- pieces of the capture of what the segments send there, as this stop says, and they fit how the segments say that the
--- output ended. No count of faults fell; an input ended by a failed read exactly where that of its own source rose, an
--- output by a failed write exactly where that of its own sink did.
+-- fits what the segments hold of it; from a place at fault on it gave up no more than one record may have, and where octets
+-- are left no more than its front. The sink took the pieces of the capture of what the segments send there, as this stop
+-- says, and they fit how the segments say that the output ended. No count of faults fell; an input ended by a failed read
+-- exactly where that of its own source rose, an output by a failed write exactly where that of its own sink did.
 pub record IsServed {S K C : Type 0} (left : S → Option (List ℕ)) (written : K → Option (List ℕ)) (source_faults : S → ℕ) (sink_faults : K → ℕ) (Arrives : Bool → List ℕ → Input → Type 0) (plan : Plan) (segments : List (List Row)) (port : ℕ) (input : Input) (stop : Option ℕ) (old new : Ends S K C) : Type 0 where
   pub used : IsUsed left written old new
   pub gave : IsInputOf Arrives (left old.source) (left new.source) (input_end port (unbroken segments)) input.arrivals input.ending
   pub fits : Fits (AreInput Arrives) (left old.source) (left new.source) (arrived port (unbroken segments)) (input_end port (unbroken segments))
-  pub near : (at : ℕ) → input_end port (unbroken segments) ≡ Some (hows.Malformed at) → GaveFew (left old.source) (left new.source) (at + longest_record)
+  pub near : (at : ℕ) → input_end port (unbroken segments) ≡ Some (hows.Malformed at) → GaveNear (left old.source) (left new.source) at
   pub took : TookPieces (written old.sink) (written new.sink) (pieces (sent_in plan port segments)) stop
   pub fits_out : FitsOutputIn plan (written old.sink) (written new.sink) port segments
   pub source : source_faults old.source ≤ source_faults new.source

@@ -2,7 +2,7 @@
 
 ghost use Rattle.std.specs.Prelude.{◌≡◌, true, false, IsSome, IfSome, Some};
 
-use frame_class::seen;
+use frame_class::{Seen, see};
 use pcap_io::PcapReader;
 use savi_core::{Core, Event};
 use savi_ends::{Clock, Ends, Source};
@@ -176,8 +176,8 @@ impl<S, K, C> PortEnds<S, K, C> {
     }
 
     // Enters the turn that was read, for which there is room. The answer is true where it is an arrival; else the input has
-    // ended.
-    pub(crate) fn enter(&mut self, core: &mut Core) -> bool
+    // ended. `seen` is room for what is seen of a frame.
+    pub(crate) fn enter(&mut self, core: &mut Core, seen: &mut Seen) -> bool
         requires known { IsSome (turn_of self.old) }
         requires sound { IsSoundAhead self.old.reader self.old.ahead }
         requires open { IsOpen core.old.plan (base_of core.old) core.old.past (Ingress self.old.port) }
@@ -192,12 +192,12 @@ impl<S, K, C> PortEnds<S, K, C> {
         match self.ahead {
             Ahead::Frame { stamp, len } => {
                 let octets = &self.buf[..len as usize];
-                let seen = seen(octets);
+                see(octets, seen);
                 let _entry = core.step(Event::Frame {
                     port: self.port,
                     stamp,
                     octets,
-                    seen: &seen,
+                    seen,
                 });
                 self.ahead = Ahead::Unread;
                 true

@@ -38,6 +38,7 @@ use crate::control_ends::ControlEnds;
 use crate::looking::{look_all, look_control};
 use crate::outputs::{begin_all, drain_all};
 use crate::port_ends::PortEnds;
+use frame_class::Seen;
 use journal_write::{Journal, Told};
 use savi_core::{Batch, Core, Event, Reply};
 use savi_ends::{Clock, Sink, Source};
@@ -85,6 +86,7 @@ pub fn replay<S: Source, K: Sink, C: Clock>(
         × IsJournalled K.written K.faults core.old.plan segments journal.old journal.new) }
 {
     let mut told = Told::new();
+    let mut seen = Seen::nothing();
     begin_journal(core.plan(), journal);
     begin_all(core, ports);
     end_unheard(core, control);
@@ -100,7 +102,7 @@ pub fn replay<S: Source, K: Sink, C: Clock>(
         if place == 0 {
             advance_control(core, control, ports, batch, reply);
         } else {
-            advance(core, ports, place - 1, batch);
+            advance(core, ports, place - 1, batch, &mut seen);
         }
     }
 }
@@ -257,12 +259,14 @@ fn advance_control<S, K: Sink, C>(
     }
 }
 
-// Enters the turn of the port at this place, for which there is room, and drains the queues behind an arrival.
+// Enters the turn of the port at this place, for which there is room, and drains the queues behind an arrival. `seen` is
+// room for what is seen of a frame.
 fn advance<S, K: Sink, C>(
     core: &mut Core,
     ports: &mut [PortEnds<S, K, C>],
     place: usize,
     batch: &mut Batch,
+    seen: &mut Seen,
 )
     requires inside { place < length ports.old }
     requires planned { ports_held ports.old ≡ ports_planned core.old.plan }
@@ -281,7 +285,7 @@ fn advance<S, K: Sink, C>(
     ensures outputs { (d : PortEnds S K C) (run : Run) → StandsAt core.old run → IfSome (turn_of (slice_index_or ports.old place d)) (λ turn.
         OutputsGoOn K.written K.faults core.old.plan run (run_with run core.new.past) ports.old ports.new (λ stops. entered_in core.old.plan stops turn run)) }
 {
-    if ports[place].enter(core) {
+    if ports[place].enter(core, seen) {
         drain_all(core, ports, batch);
     }
 }

@@ -2,7 +2,7 @@
 
 ghost use Rattle.std.specs.Prelude.{◌≡◌, ◌≢◌, ◌≤◌, ◌⊎◌, Ok, Err, IfOk, IfSome, IfNone, length, take};
 ghost use Rattle.savi_conf.specs.Answers.{IsAnswer};
-ghost use Rattle.savi_ends.specs.Faults.{Rose, RoseOnce};
+ghost use Rattle.savi_ends.specs.Faults.{Rose};
 ghost use Rattle.savi_ends.specs.Places.{IsReady, OthersStay};
 ghost use Rattle.savi_conf.specs.declared.fault.ConfFault.{ConfFault};
 ghost use Rattle.run_config.specs.declared.refusal.Refusal.{Refusal};
@@ -38,7 +38,7 @@ pub fn configure<W: World>(
 
     ensures configured { IfOk result (IsConfigured replay W.S.left ((W.book world.old).inputs file.now)) }
     ensures refused { (fault : ConfFault) → result ≡ Err (Refusal.Refused fault) → IsRefused replay W.S.left ((W.book world.old).inputs file.now) fault }
-    ensures unopened { result ≡ Err Refusal.CannotOpen → RoseOnce (W.book world.old).faults (W.book world.new).faults }
+    ensures unopened { result ≡ Err Refusal.CannotOpen → Rose (W.book world.old).faults (W.book world.new).faults }
     ensures still_world { result ≢ Err Refusal.CannotOpen → (W.book world.new).faults ≡ (W.book world.old).faults }
     ensures unread { result ≡ Err Refusal.ReadFailed → EndHasFault W.S.faults ((W.book world.new).inputs file.now) }
     ensures still { result ≢ Err Refusal.ReadFailed → result ≢ Err Refusal.CannotOpen → result ≢ Err Refusal.NoMemory → EndHasNoFault W.S.faults ((W.book world.new).inputs file.now) }

@@ -1,5 +1,6 @@
 pub mod Octets
 pub mod Buffers
+pub mod FaultCounts
 pub mod FirstPlace
 pub mod Keys
 pub mod OnlyOut

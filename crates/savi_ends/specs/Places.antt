@@ -5,7 +5,7 @@ use Rattle.savi_kinds.specs.declared.plan.PortPlan.{PortPlan}
 use Rattle.savi_kinds.specs.Ports.{number_of}
 use Rattle.savi_ends.specs.declared.world.Std.{Std}
 use Rattle.savi_ends.specs.declared.world.Ends.{Ends}
-use Rattle.savi_ends.specs.Faults.{RoseOnce}
+use Rattle.savi_ends.specs.Faults.{Rose}
 
 -- A place: whether its end is handed out, and the end that stands there, where that is told. Before an
 -- opening that is the end to be handed out, and after a keep call the end that was kept.
@@ -52,7 +52,7 @@ pub record Opens {X E : Type 0} (IsFresh : X → Type 0) (before after : ℕ) (o
   pub fresh : IfOk result IsFresh
   pub out : OnOk result (new.is_out ≡ true)
   pub still : OnOk result (after ≡ before)
-  pub once : OnErr result (RoseOnce before after)
+  pub once : OnErr result (Rose before after)
   pub err : OnErr result (new ≡ old)
 
 -- every other place is as it was

@@ -2,7 +2,7 @@ ghost use Rattle.std.specs.Prelude.{◌≡◌, ◌≤◌, ◌↔◌, ℕ, true, 
 ghost use Rattle.savi_kinds.specs.Ports.{number_of};
 ghost use Rattle.savi_ends.specs.MemPlaces.{NamesDiffer};
 ghost use Rattle.savi_ends.specs.Counts.{next_count, is_listed};
-ghost use Rattle.savi_ends.specs.Faults.{RoseOnce};
+ghost use Rattle.savi_ends.specs.Faults.{Rose};
 ghost use Rattle.savi_ends.specs.Places.{BothFresh};
 
 use crate::mem_clock::MemClock;
@@ -326,7 +326,7 @@ fn is_next_to_fail(opened: &mut u64, fails: &[u64]) -> bool
 fn fault(faulty: &mut u64) -> OpenFailed
     ensures count { faulty.new ≡ next_count faulty.old }
     ensures later { faulty.old ≤ faulty.new }
-    ensures once { RoseOnce faulty.old faulty.new }
+    ensures once { Rose faulty.old faulty.new }
 {
     *faulty = faulty.saturating_add(1);
     OpenFailed

@@ -27,7 +27,7 @@ pub trait Sink {
     /// Writes a piece behind what was written before.
     ///
     /// `Done` is the whole piece, and the count of faults stays as it was. `Failed` comes only where the
-    /// count rose in this call, and then a front of the piece may have been written.
+    /// count rose by one in this call, and then a front of the piece may have been written.
     fn write(&mut self, piece: &[u8]) -> Put
         ensures extends { Extends result (written self.old) (written self.new) piece.now }
         ensures later { faults self.old ≤ faults self.new }

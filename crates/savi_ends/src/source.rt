@@ -29,8 +29,8 @@ pub trait Source {
 
     /// Reads the next octets into the front of a buffer that isn't empty.
     ///
-    /// `End` comes only where nothing is left, where the source tells what is left. `Failed` comes
-    /// only where the count of faults rose in this call, and then nothing was taken; else the count stays as it was.
+    /// `End` comes only where nothing is left, where the source tells what is left. `Failed` comes only where the count
+    /// of faults rose by one in this call, and then nothing was taken; else the count stays as it was.
     fn read(&mut self, buf: &mut [u8]) -> Got
         requires { 0 < length buf.old }
         ensures count { FitsIn result (length buf.old) }

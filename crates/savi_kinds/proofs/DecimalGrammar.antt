@@ -1,5 +1,5 @@
 -- A number in decimal, as the library reads it, and the length of a prefix.
-use Rattle.std.proofs.Common.{ℕ, ◌≡◌, ◌≢◌, ◌^◌, ◌<◌, ◌≤◌, List, [], ◌∷◌, Option, Some, None, IfSome, IfNone, Result, Ok, Err, MatchResult, decimal, get_or, sym, ap, ◌∙◌, subst, arith}
+use Rattle.std.proofs.Common.{ℕ, ◌≡◌, ◌≢◌, ◌+◌, ◌-◌, ◌^◌, ◌<◌, ◌≤◌, List, [], ◌∷◌, Option, Some, None, IfSome, IfNone, Result, Ok, Err, MatchResult, decimal, get_or, length, refl, sym, ap, ◌∙◌, subst, arith}
 use Rattle.std.proofs.lemmas.Option.{none-some}
 use Rattle.std.proofs.lemmas.Fmt.{decimal_is_IsNumeral, first_decimal, decimal_digit, decimal_injective, decimal-digits_value, parse-decimal, IsAscii-decimal}
 use Rattle.std.proofs.lemmas.Str.{IsUtf8-from_ascii}
@@ -31,8 +31,17 @@ decimal_begins text n small spelled other =
 pub decimal_utf8 : (text : List ℕ) (n : ℕ) → n < 2 ^ 64 → text ≡ decimal n → IsUtf8 text
 decimal_utf8 text n small spelled = subst IsUtf8 (sym spelled) (IsUtf8-from_ascii (decimal n) (IsAscii-decimal n small))
 
-pub zero_text : (text : List ℕ) → text ≡ 48 ∷ [] → (text ≡ decimal 0) × (0 < 2 ^ 64)
-zero_text text is = (is ∙ sym (decimal_digit 0 (omega arith)), omega arith)
+one_item : (text : List ℕ) → length text ≡ 1 → text ≡ get_or text 0 0 ∷ []
+one_item [] one = absurd (omega arith)
+one_item (x ∷ []) one = refl
+one_item (x ∷ y ∷ text) one = absurd (omega arith)
+
+-- a number of one digit
+pub digit_text : (text : List ℕ) → length text ≡ 1 → 48 ≤ get_or text 0 0 → get_or text 0 0 ≤ 57 → (text ≡ decimal (get_or text 0 0 - 48)) × (get_or text 0 0 - 48 < 10)
+digit_text text one low high =
+    let c = get_or text 0 0 in
+    let back : 48 + (c - 48) ≡ c = omega (arith, low) in
+    (one_item text one ∙ ap (λ (k : ℕ). k ∷ []) (sym back) ∙ sym (decimal_digit (c - 48) (omega (arith, low, high))), omega (arith, low, high))
 
 -- what the library reads of digits that begin with none but '1' to '9'
 pub some_read : {E : Type 0} (text : List ℕ) (r : Result ℕ E) (o : Option ℕ) → 49 ≤ get_or text 0 0 → ParsesUnsigned 64 10 text r → o ≡ result_ok r → IfSome o (λ n. (text ≡ decimal n) × (n < 2 ^ 64))

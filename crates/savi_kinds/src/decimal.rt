@@ -1,4 +1,4 @@
-ghost use Rattle.std.specs.Prelude.{◌≡◌, ◌≢◌, ℕ, ◌^◌, ◌<◌, ◌≤◌, ◌↔◌, IsTrue, IfSome, IfNone, decimal, codes, slice_index};
+ghost use Rattle.std.specs.Prelude.{◌≡◌, ◌≢◌, ℕ, ◌^◌, ◌<◌, ◌≤◌, ◌↔◌, IsTrue, IfSome, IfNone, decimal, length, slice_index};
 
 use std::str;
 
@@ -18,8 +18,9 @@ fn read_u64(text: &[u8]) -> Option<u64>
     ensures read { IfSome result (λ n. (text.now ≡ decimal n) × (n < 2 ^ 64)) }
     ensures only { IfNone result ((n : ℕ) → n < 2 ^ 64 → text.now ≢ decimal n) }
 {
-    if is_zero(text) {
-        return Some(0);
+    // Most numbers of a journal have one digit.
+    if is_digit(text) {
+        return Some(u64::from(text[0] - b'0'));
     }
     // No leading zero, and no sign, which `parse` would take.
     if !begins_with_one_to_nine(text) {
@@ -29,10 +30,11 @@ fn read_u64(text: &[u8]) -> Option<u64>
     digits.parse().ok()
 }
 
-fn is_zero(text: &[u8]) -> bool
-    ensures { IsTrue result ↔ (text.now ≡ codes "0") }
+// Whether it is one digit.
+fn is_digit(text: &[u8]) -> bool
+    ensures { IsTrue result ↔ ((length text.now ≡ 1) × (48 ≤ slice_index text.now 0) × (slice_index text.now 0 ≤ 57)) }
 {
-    text == b"0".as_slice()
+    matches!(text, [b'0'..=b'9'])
 }
 
 // Whether the first character is a digit other than '0'.

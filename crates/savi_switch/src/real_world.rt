@@ -2,7 +2,7 @@
 
 ghost use Rattle.std.specs.Prelude.{◌≡◌, ◌≤◌, ℕ, List, true, false, Some, IfOk, IfErr, IfSome, OnErr};
 ghost use Rattle.savi_kinds.specs.Ports.{number_of};
-ghost use Rattle.savi_ends.specs.Faults.{RoseOnce};
+ghost use Rattle.savi_ends.specs.Faults.{Rose};
 
 use crate::awaiting::Awaiting;
 use crate::opener::{Opener, RealClock, RealEnds, RealSink, RealSource};
@@ -95,7 +95,7 @@ impl<R: Files + Net + Wait + Copy + Drop> RealWorld<R> {
 // Counts an opening that failed.
 fn fault(faults: &mut u64) -> OpenFailed
     ensures later { faults.old ≤ faults.new }
-    ensures once { RoseOnce faults.old faults.new }
+    ensures once { Rose faults.old faults.new }
 {
     *faults = faults.saturating_add(1);
     OpenFailed

@@ -1,11 +1,11 @@
 -- What is left of a capture that was split, once all ends are kept again.
-use Rattle.std.proofs.Common.{◌≡◌, ◌≢◌, ℕ, ◌+◌, ◌<◌, List, [], ◌∷◌, ◌++◌, length, get_or, map, Option, Some, None, IfSome, IsSomeAnd, refl, sym, ap, subst, ◌∙◌, arith, true}
+use Rattle.std.proofs.Common.{◌≡◌, ◌≢◌, ℕ, ◌<◌, List, [], ◌∷◌, ◌++◌, get_or, Option, Some, None, IfSome, IsSomeAnd, refl, sym, ap, subst, ◌∙◌, arith, true}
 use Rattle.std.proofs.lemmas.List.{get_or-map, length-map}
 use Rattle.std.proofs.lemmas.List.Elements.{All-map}
 use Rattle.std.specs.Prelude.{All}
 use Rattle.savi_kinds.specs.declared.entry.How.{How}
 use Rattle.savi_kinds.specs.declared.entry.How.TheVariants as how
-use Rattle.savi_ends.specs.Faults.{RoseOnce}
+use Rattle.savi_ends.specs.Faults.{Rose}
 use Rattle.savi_ends.specs.Octets.{Takes}
 use Rattle.savi_ends.specs.Places.{Place, Book, OthersStay, IsReady, IsOnlyOut}
 use Rattle.savi_ends.proofs.Ready.{opened_alone}
@@ -16,14 +16,14 @@ use Rattle.pcap_split.specs.declared.output.Output.{Output}
 use Rattle.pcap_split.specs.Counts.{interfaces_of, tally_of}
 use Rattle.pcap_split.specs.Going.{EachOutput}
 use Rattle.pcap_split.specs.Splits.{Tally, split_text, no_tally, tally}
-use Rattle.pcap_split.specs.Wholes.{IsSplitWhole}
+use Rattle.pcap_split.specs.Wholes.{IsSplitWhole, IsSplitFront}
 use Rattle.split_run.specs.declared.outcome.Outcome.{Outcome}
 use Rattle.split_run.specs.declared.outcome.Outcome.TheVariants as outcome
 use Rattle.split_run.specs.Names.{output_name, name_in, AreNames}
-use Rattle.split_run.specs.Runs.{Keeps, OfTold, IsFaulty, AddedAll, AddedSome, GaveUnbroken, GaveNear, GaveBroken, AreCaptures, TellsFirst, IsSplitToEnd, IsSplitInPart, IsNamed, CameTo, IsSplitRun}
-use Rattle.split_run.specs.Steps.{AreOut, IsSplitPart, HasSinkFault, SinksStay, EndsSplit, HasSplit}
+use Rattle.split_run.specs.Runs.{Keeps, OfTold, IsFaulty, AddedAll, GaveUnbroken, GaveTold, GaveWithinBlock, GaveBroken, AreCaptures, TellsFirst, IsSplitToEnd, IsSplitInPart, IsStoppedAt, IsBeginning, IsToWrite, AddedAllBut, IsNamed, CameTo, IsSplitRun}
+use Rattle.split_run.specs.Steps.{AreOut, IsStopped, HasSinkFault, SinksStay, EndsSplit, HasSplit}
 use Rattle.split_run.proofs.Apart.{output_names_differ}
-use Rattle.split_run.proofs.Parts.{fault_of}
+use Rattle.split_run.proofs.Parts.{first_read, first_broken, fault_of}
 
 pub of_interfaces : {K : Type 0} (P : ℕ → Type 0) (held : List (Output K)) → All P (interfaces_of held) → All (λ o. P o.interface) held
 of_interfaces {K} P held all k d inside =
@@ -139,32 +139,53 @@ module _ {S K C : Type 0} (left : S → Option (List ℕ)) (written : K → Opti
               (captures (λ k. AddedAll written sink_faults) events (is.captures.0, λ k d inside. let one = is.captures.1 k d inside in (one.same, (one.text, stay.1 k d inside))));
         }
 
-    abbrev part : (failed : Option ℕ) (missing : List ℕ) → IsSplitPart written sink_faults failed missing split.handed held split.gave → IsSplitInPart left written sink_faults failed missing file (b0.inputs file) b0.outputs b4.outputs
-    part failed missing is = record {
+    abbrev part : (counts : Counts) (events : List Event) → IsSplitFront written counts split.handed held split.gave events → SinksStay sink_faults split.handed held → IsSplitInPart left written sink_faults file (b0.inputs file) b0.outputs b4.outputs
+    part counts events is stay =
+        let same : (tally no_tally events).split ≡ interfaces_of split.handed = sym (ap (λ (t : Tally). t.split) is.counted_is) in
+        record {
+          events = events;
+          tells = tells_text left (TellsFirst events) (b0.inputs file) source source' split.gave told split.takes (λ rest told_rest. first_broken written counts split.handed held split.gave events is rest);
+          outputs = subst (λ (l : List ℕ). AreCaptures (λ k. AddedAll written sink_faults) file l events b0.outputs b4.outputs) (sym same)
+              (captures (λ k. AddedAll written sink_faults) events (is.captures.0, λ k d inside. let one = is.captures.1 k d inside in (one.same, (one.text, stay.1 k d inside))));
+        }
+
+    abbrev stopped : (Is : List Event → Event → Type 0) (Took : List Event → Event → ℕ → List ℕ → K → K → Type 0) (missing : List ℕ) → IsStopped Is Took missing split.handed held split.gave → IsStoppedAt left Is Took missing file (b0.inputs file) b0.outputs b4.outputs
+    stopped Is Took missing is = record {
+      earlier = is.earlier;
+      last = is.last;
       events = is.events;
-      tells = tells_text left (TellsFirst is.events) (b0.inputs file) source source' split.gave told split.takes (λ rest told_rest. is.first rest);
+      all = is.all;
+      is = is.is;
+      tells = tells_text left (TellsFirst is.events) (b0.inputs file) source source' split.gave told split.takes (λ rest told_rest. first_read is.next split.gave is.events is.gone.read rest);
       opened = interfaces_of split.handed;
       among = is.among;
-      outputs = captures (AddedSome written sink_faults failed) is.events is.each;
+      outputs = captures (Took is.earlier is.last) is.events is.each;
     }
+
+    read_told : (Is : List Event → Event → Type 0) (Took : List Event → Event → ℕ → List ℕ → K → K → Type 0) (missing : List ℕ) (is : IsStopped Is Took missing split.handed held split.gave) → source_faults source' ≡ source_faults source → Keeps (GaveTold left source_faults is.events) (b0.inputs file) (b4.inputs file)
+    read_told Is Took missing is still = read_from (GaveTold left source_faults is.events) ((split.gave, is.next, split.takes, is.gone), still)
 
     came : (result' : Outcome) → EndsSplit written sink_faults b1.faults b2.faults (source_faults source) (source_faults source') split.handed held split.gave (left source') result' → CameTo left written source_faults sink_faults file b0 b4 result'
     came (outcome.Split counts) ends = (some_read ends.1, whole counts how.End ends.0.0 ends.0.1 ends.2)
     came (outcome.Malformed at counts) ends = (
-      read_from (GaveNear left source_faults at) ((split.gave, split.takes, ends.0.1.near at refl), ends.1),
+      read_from (GaveWithinBlock left source_faults at) ((split.gave, split.takes, ends.0.1.near at refl), ends.1),
       whole counts (how.Malformed at) ends.0.0 ends.0.1 ends.2,
     )
     came outcome.Unread ends = (
-      part None [] ends.0,
-      read_from (GaveBroken left source_faults ends.0.events) ((split.gave, split.takes, ends.1), ends.2),
-      fault_stands source_faults (b4.inputs file) source' stands (fault_of (source_faults source) (source_faults source') ends.2),
+      part ends.0.1 ends.0.0 ends.0.2 ends.2,
+      read_from (GaveBroken left source_faults ends.0.0) ((split.gave, split.takes, ends.0.2.unread), ends.1),
+      fault_stands source_faults (b4.inputs file) source' stands (fault_of (source_faults source) (source_faults source') ends.1),
     )
-    came (outcome.Unwritten interface) ends = (some_read ends.3, part (Some interface) [] ends.0, fault_kept file names are sink_faults interface held b4.outputs ends.1 kept ends.2)
+    came (outcome.Unwritten interface) ends = (
+      stopped (IsToWrite interface) (AddedAllBut written sink_faults interface) [] ends.0,
+      read_told (IsToWrite interface) (AddedAllBut written sink_faults interface) [] ends.0 ends.3,
+      fault_kept file names are sink_faults interface held b4.outputs ends.1 kept ends.2,
+    )
     came (outcome.NoOutput interface) ends = (
-      some_read ends.4,
-      part None (interface ∷ []) ends.0,
-      subst (λ (n : ℕ). RoseOnce b0.faults n) (sym faults_last) (subst (λ (n : ℕ). RoseOnce n b2.faults) opened_still ends.1),
-      (captures (AddedSome written sink_faults None) ends.0.events ends.0.each).others (output_name file interface) (to_interfaces (λ k. output_name file k ≢ output_name file interface) split.handed
+      stopped (IsBeginning interface) (λ earlier last k. AddedAll written sink_faults) (interface ∷ []) ends.0,
+      read_told (IsBeginning interface) (λ earlier last k. AddedAll written sink_faults) (interface ∷ []) ends.0 ends.4,
+      subst (λ (n : ℕ). Rose b0.faults n) (sym faults_last) (subst (λ (n : ℕ). Rose n b2.faults) opened_still ends.1),
+      (captures (λ k. AddedAll written sink_faults) ends.0.events ends.0.each).others (output_name file interface) (to_interfaces (λ k. output_name file k ≢ output_name file interface) split.handed
           (λ k d inside same. ends.3 k d inside (output_names_differ file (get_or split.handed k d).interface interface (split.within k d inside) ends.2 same))),
     )
     came outcome.NoInput ends = absurd ends

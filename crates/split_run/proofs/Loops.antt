@@ -1,11 +1,12 @@
 -- A capture is split up to one interface after another.
-use Rattle.std.proofs.Common.{◌≡◌, ◌≢◌, ℕ, ◌+◌, ◌-◌, ◌<◌, ◌≤◌, List, [], ◌∷◌, ◌++◌, length, get_or, take, drop, Option, Some, None, refl, sym, ap, subst, ◌∙◌, arith, append-nil, length-append}
+use Rattle.std.proofs.Common.{◌≡◌, ◌≢◌, ℕ, ◌+◌, ◌<◌, ◌≤◌, List, [], ◌∷◌, ◌++◌, length, get_or, take, drop, Option, Some, None, refl, sym, ap, subst, ◌∙◌, arith, append-nil, length-append}
 use Rattle.std.specs.Prelude.{All}
 use Rattle.std.proofs.lemmas.List.{get_or_at, drop_all, take_all}
 use Rattle.savi_kinds.specs.declared.entry.How.TheVariants as how
-use Rattle.savi_ends.specs.Faults.{Rose, RoseOnce}
-use Rattle.savi_ends.specs.Octets.{behind, Takes}
+use Rattle.savi_ends.specs.Faults.{Rose}
+use Rattle.savi_ends.specs.Octets.{Takes}
 use Rattle.savi_ends.specs.Places.{Book, OthersStay, IsReady}
+use Rattle.savi_ends.proofs.FaultCounts.{rose_since}
 use Rattle.savi_ends.proofs.Octets.{takes_more}
 use Rattle.pcap_io.specs.Captures.{header_text}
 use Rattle.pcap_io.proofs.CallsJoined.{takes_none}
@@ -19,18 +20,18 @@ use Rattle.pcap_split.specs.declared.split.SplitGot.{SplitGot}
 use Rattle.pcap_split.specs.declared.split.SplitGot.TheVariants as got
 use Rattle.pcap_split.specs.Splits.{Tally, no_tally, tally}
 use Rattle.pcap_split.specs.Counts.{interfaces_of, tally_of, no_counts}
-use Rattle.pcap_split.specs.Going.{HasTold, HasBroken, HasGone, HasTaken, HasTakenFront, HasBegun, HasRisen, Tells, Writes, split_behind, EachOutput, Differ}
+use Rattle.pcap_split.specs.Going.{HasTold, HasBroken, HasGone, HasTaken, HasBegun, HasRisen, Tells, Writes, split_behind, EachOutput, Differ}
 use Rattle.pcap_split.specs.Wholes.{IsSplit, IsCall}
-use Rattle.pcap_split.proofs.Goings.{same_interfaces, interfaces_stay, rose_since}
-use Rattle.pcap_split.proofs.Wholes.{split_start, split_opened, split_ended, interfaces_more, each_more}
+use Rattle.pcap_split.proofs.Goings.{interfaces_stay}
+use Rattle.pcap_split.proofs.Wholes.{split_start, split_opened, split_ended, split_broken, interfaces_more, each_more}
 use Rattle.split_run.specs.declared.outcome.Outcome.{Outcome}
 use Rattle.split_run.specs.declared.outcome.Outcome.TheVariants as outcome
 use Rattle.split_run.specs.Names.{name_in, AreNamesApart}
-use Rattle.split_run.specs.Runs.{AddedSome, HasOpenedAll}
+use Rattle.split_run.specs.Runs.{AddedFront, HasOpenedAll}
 use Rattle.split_run.specs.Steps.{AreOut, HaveOwnInterfaces, IsHeldMore, HasTried, SinksStay, EndsSplit, HasSplit}
 use Rattle.split_run.proofs.Rising.{Rises, IsNew, rises, own_interfaces, differ, low_interfaces, next_new}
 use Rattle.split_run.proofs.Outs.{names_away, out_none, next_ready, out_more, out_still}
-use Rattle.split_run.proofs.Parts.{same_handed, split_then, part_unread, part_unwritten, part_unopened, part_unbegun, sinks_stay_more, sink_fault, fault_of}
+use Rattle.split_run.proofs.Parts.{same_handed, split_then, stopped_unwritten, stopped_unopened, stopped_unbegun, sinks_stay_more, sink_fault, but_stay, fault_of}
 
 -- a reader that reads on has had no failed read
 ends_not_failed : (all : List Block) (s : blocks.Standing) (octets : List ℕ) → AreBlocks s all how.Failed octets → ⊥
@@ -74,9 +75,6 @@ rises_handed written state counts handed held gave events was = subst (λ (l : L
 rises_held : {K : Type 0} (written : K → Option (List ℕ)) (state : State) (counts : Counts) (handed held : List (Output K)) (gave : List ℕ) (events : List Event) → IsSplit written state counts handed held gave events → Rises (interfaces_of held) (tally no_tally events).interfaces
 rises_held written state counts handed held gave events was =
     subst (λ (l : List ℕ). Rises l (tally no_tally events).interfaces) (sym (same_handed written state counts handed held gave events was)) (rises_handed written state counts handed held gave events was)
-
-front_stay : {K : Type 0} (written : K → Option (List ℕ)) (faults : K → ℕ) (failed : ℕ) (events : List Event) (old new : List (Output K)) → EachOutput (HasTakenFront written faults failed events) old new → interfaces_of new ≡ interfaces_of old
-front_stay written faults failed events old new each = same_interfaces old new each.0 (λ k d within. (each.1 k d within).same)
 
 module _ {S K C : Type 0} (left : S → Option (List ℕ)) (written : K → Option (List ℕ)) (source_faults : S → ℕ) (sink_faults : K → ℕ) (names : List (List ℕ)) (count : length names ≡ 16) (apart : AreNamesApart names) (source0 source1 source2 : S) (old mid : Book S K C) (state state' : State) (counts counts' : Counts) (held held' : List (Output K))
     (so_far : SplitSoFar left written source_faults sink_faults (name_in names) source0 source1 old mid state counts held) where
@@ -125,15 +123,17 @@ module _ {S K C : Type 0} (left : S → Option (List ℕ)) (written : K → Opti
         ((so_far.events ++ later, split_ended written sink_faults (how.Malformed at) state state' counts counts' so_far.handed held held' so_far.gave more (left source2) so_far.events later so_far.split told each counted), still ∙ so_far.still, stand each)
 
     pub did_fail : HasBroken state state' more later → EachOutput (HasTaken written sink_faults later) held held' → tally_of counts' (interfaces_of held) ≡ tally (tally_of counts (interfaces_of held)) later → Rose (source_faults source1) (source_faults source2) → Did outcome.Unread
-    did_fail broken each counted rose =
-        let part = part_unread written sink_faults state state' counts counts' so_far.handed held held' so_far.gave more so_far.events later so_far.split so_far.stood broken each counted in
-        did (interfaces_stay written sink_faults later held held' each) outcome.Unread
-        (part.0, part.1, rose_since (source_faults source0) (source_faults source1) (source_faults source2) (omega (arith, so_far.still)) rose)
+    did_fail broken each counted rose = did (interfaces_stay written sink_faults later held held' each) outcome.Unread (
+      (so_far.events ++ later, counts', split_broken written sink_faults state state' counts counts' so_far.handed held held' so_far.gave more so_far.events later so_far.split broken each counted),
+      rose_since (source_faults source0) (source_faults source1) (source_faults source2) so_far.still rose,
+      stand each,
+    )
 
-    pub did_not_write : source_faults source2 ≡ source_faults source1 → (interface : ℕ) → HasGone state state' more later → EachOutput (HasTakenFront written sink_faults interface later) held held' → tally_of counts' (interfaces_of held) ≡ tally (tally_of counts (interfaces_of held)) later → HasRisen sink_faults interface held held' → Did (outcome.Unwritten interface)
-    did_not_write still interface read each counted risen_sink =
-        let part = part_unwritten written sink_faults state state' counts counts' so_far.handed held held' so_far.gave more so_far.events later so_far.split so_far.stood interface read each counted in
-        did (front_stay written sink_faults interface later held held' each) (outcome.Unwritten interface) (part, low_risen, sink_fault written sink_faults interface later held held' each risen_sink, still ∙ so_far.still)
+    pub did_not_write : source_faults source2 ≡ source_faults source1 → (interface : ℕ) → HasGone state state' more later → Writes written sink_faults (got.Unwritten interface) later held held' → tally_of counts' (interfaces_of held) ≡ tally (tally_of counts (interfaces_of held)) later → HasRisen sink_faults interface held held' → Did (outcome.Unwritten interface)
+    did_not_write still interface read writes counted risen_sink =
+        let stopped = stopped_unwritten written sink_faults state state' counts counts' so_far.handed held held' so_far.gave more so_far.events later so_far.split so_far.stood read interface writes counted in
+        did (but_stay written sink_faults interface writes.0 writes.1 writes.2 held held' writes.4) (outcome.Unwritten interface)
+        (stopped, low_risen, sink_fault written sink_faults interface writes.0 writes.1 writes.2 held held' writes.4 risen_sink, still ∙ so_far.still)
       where
         low_risen : interface < 16
         low_risen = low_of held (low_interfaces held _ (rises_held written state counts so_far.handed held so_far.gave so_far.events so_far.split)) risen_sink
@@ -211,8 +211,8 @@ module _ {S K C : Type 0} (left : S → Option (List ℕ)) (written : K → Opti
           within = low_handed;
           same = stay ∙ same_handed written state counts so_far.handed held so_far.gave so_far.events so_far.split;
           ends = (
-            part_unopened written sink_faults state state' counts counts' so_far.handed held held' so_far.gave more so_far.events later so_far.split so_far.stood interface read each counted,
-            subst (λ (n : ℕ). RoseOnce n new.faults) so_far.unfailed tried.1,
+            stopped_unopened written sink_faults state state' counts counts' so_far.handed held held' so_far.gave more so_far.events later so_far.split so_far.stood read interface begun each counted,
+            subst (λ (n : ℕ). Rose n new.faults) so_far.unfailed tried.1,
             new_here.low,
             new_here.apart,
             still ∙ so_far.still,
@@ -220,7 +220,7 @@ module _ {S K C : Type 0} (left : S → Option (List ℕ)) (written : K → Opti
         })
         stops (outcome.Unwritten k) tried world_still = unbegun k tried.0 tried.1
           where
-            unbegun : (k : ℕ) → k ≡ interface → IsHeldMore (λ sink begun. AddedSome written sink_faults (Some interface) interface header_text sink begun × Rose (sink_faults sink) (sink_faults begun)) interface (mid.outputs (name_in names interface)) (new.outputs (name_in names interface)) held' held'' → HasSplit left written source_faults sink_faults (name_in names) source0 source2 old new held'' (outcome.Unwritten k)
+            unbegun : (k : ℕ) → k ≡ interface → IsHeldMore (AddedFront written sink_faults [] header_text) interface (mid.outputs (name_in names interface)) (new.outputs (name_in names interface)) held' held'' → HasSplit left written source_faults sink_faults (name_in names) source0 source2 old new held'' (outcome.Unwritten k)
             unbegun k is more_held =
                 let sink = more_held.0 in
                 let begun_sink = more_held.1 in
@@ -241,13 +241,16 @@ module _ {S K C : Type 0} (left : S → Option (List ℕ)) (written : K → Opti
                   within = low_interfaces all _ (subst (λ (l : List ℕ). Rises l (tally no_tally (so_far.events ++ later)).interfaces) (sym same_all) rising);
                   same = same_held ∙ sym same_all;
                   ends = (
-                    part_unbegun written sink_faults state state' counts counts' so_far.handed held held' so_far.gave more so_far.events later so_far.split so_far.stood interface read each counted sink begun_sink more_held.4.0,
+                    stopped_unbegun written sink_faults state state' counts counts' so_far.handed held held' so_far.gave more so_far.events later so_far.split so_far.stood read interface begun each counted new_here.apart sink begun_sink more_held.4,
                     new_here.low,
-                    (length held', (omega (arith, length-append held' (n ∷ [])), λ (d : Output K). ap (λ (x : Output K). x.interface) (last_at held' n d)), λ (d : Output K). subst (λ (x : Output K). 0 < sink_faults x.sink) (sym (last_at held' n d)) (fault_of (sink_faults sink) (sink_faults begun_sink) more_held.4.1)),
+                    (length held', (omega (arith, length-append held' (n ∷ [])), λ (d : Output K). ap (λ (x : Output K). x.interface) (last_at held' n d)), λ (d : Output K). subst (λ (x : Output K). 0 < sink_faults x.sink) (sym (last_at held' n d)) (fault_of (sink_faults sink) (sink_faults begun_sink) (rose_in sink begun_sink more_held.4))),
                     still ∙ so_far.still,
                   );
                 })
               where
+                rose_in : (sink begun : K) → AddedFront written sink_faults [] header_text sink begun → Rose (sink_faults sink) (sink_faults begun)
+                rose_in sink begun took = took.3
+
                 last_at : (outputs : List (Output K)) (n d : Output K) → get_or (outputs ++ n ∷ []) (length outputs) d ≡ n
                 last_at outputs n d = get_or_at outputs n [] d (length outputs) refl
         stops (outcome.Split counted_so) tried world_still = absurd tried
@@ -294,7 +297,10 @@ module _ {S K C : Type 0} (left : S → Option (List ℕ)) (written : K → Opti
     stops_failed call rose = done outcome.Unread call.5.0 (did_fail left written source_faults sink_faults names count apart source0 source1 source2 old mid state state' counts counts' slice outs so_slice call.0 call.1 call.2 call.3 call.5 call.6 rose)
 
     pub stops_unwritten : source_faults source2 ≡ source_faults source1 → (interface : ℕ) → Call (got.Unwritten interface) → HasRisen sink_faults interface slice outs → HasSplit left written source_faults sink_faults (name_in names) source0 source2 old mid (take n (outs ++ drop (length outs) items)) (outcome.Unwritten interface)
-    stops_unwritten still interface call rose = done (outcome.Unwritten interface) call.5.0 (did_not_write left written source_faults sink_faults names count apart source0 source1 source2 old mid state state' counts counts' slice outs so_slice call.0 call.1 call.2 still interface call.3 call.5 call.6 rose)
+    stops_unwritten still interface call rose = done (outcome.Unwritten interface) (size_of call.5) (did_not_write left written source_faults sink_faults names count apart source0 source1 source2 old mid state state' counts counts' slice outs so_slice call.0 call.1 call.2 still interface call.3 call.5 call.6 rose)
+      where
+        size_of : Writes written sink_faults (got.Unwritten interface) call.1 slice outs → length outs ≡ length slice
+        size_of writes = writes.4.0
 
     module _ (still : source_faults source2 ≡ source_faults source1) (interface : ℕ) (call : Call (got.Opens interface)) where
       pub opens_low : interface < length names

@@ -1,20 +1,21 @@
 -- Words of private contracts: what is held while a capture is split.
 use Rattle.std.specs.Prelude.{◌≡◌, ◌≢◌, ◌<◌, ℕ, true, List, [], ◌∷◌, ◌++◌, slice_index_or, Option, Some, None, IfSome, All, AllPairs}
 use Rattle.savi_kinds.specs.declared.entry.How.TheVariants as how
-use Rattle.savi_ends.specs.Faults.{Rose, RoseOnce}
+use Rattle.savi_ends.specs.Faults.{Rose}
 use Rattle.savi_ends.specs.Octets.{Takes}
 use Rattle.savi_ends.specs.Places.{Place, Book}
 use Rattle.pcap_io.specs.Captures.{header_text}
 use Rattle.pcapng_io.specs.Runs.{Event, at_start}
-use Rattle.pcapng_io.specs.Readers.{Reading}
+use Rattle.pcapng_io.specs.Readers.{State, Reading}
+use Rattle.pcap_split.specs.declared.counts.Counts.{Counts}
 use Rattle.pcap_split.specs.declared.output.Output.{Output}
 use Rattle.pcap_split.specs.Counts.{interfaces_of}
-use Rattle.pcap_split.specs.Going.{BreaksOff, EachOutput, IsOutputOf}
+use Rattle.pcap_split.specs.Going.{HasGone, EachOutput, IsOutputOf}
 use Rattle.pcap_split.specs.Splits.{split_text, no_tally, tally}
-use Rattle.pcap_split.specs.Wholes.{IsSplitWhole}
+use Rattle.pcap_split.specs.Wholes.{IsSplitWhole, IsSplitFront}
 use Rattle.split_run.specs.declared.outcome.Outcome.{Outcome}
 use Rattle.split_run.specs.declared.outcome.Outcome.TheVariants as outcome
-use Rattle.split_run.specs.Runs.{TellsFirst, AddedAll, AddedSome, HasOpenedAll}
+use Rattle.split_run.specs.Runs.{AddedAll, AddedFront, AddedAllBut, IsBeginning, IsToWrite, HasOpenedAll}
 
 -- no two of these outputs are of one interface
 abbrev pub HaveOwnInterfaces : {K : Type 0} → List (Output K) → Type 0
@@ -34,9 +35,9 @@ IsHeldMore {K} Holds interface old new held held' =
 abbrev pub HasTried : {K : Type 0} → (K → Option (List ℕ)) → (K → ℕ) → ℕ → ℕ → ℕ → Place K → Place K → List (Output K) → List (Output K) → Option Outcome → Type 0
 HasTried written faults interface before after old new held held' None = IsHeldMore (AddedAll written faults header_text) interface old new held held'
 HasTried written faults interface before after old new held held' (Some (outcome.Unwritten k)) =
-    (k ≡ interface) × IsHeldMore (λ sink begun. AddedSome written faults (Some interface) interface header_text sink begun × Rose (faults sink) (faults begun)) interface old new held held'
+    (k ≡ interface) × IsHeldMore (AddedFront written faults [] header_text) interface old new held held'
 HasTried written faults interface before after old new held held' (Some (outcome.NoOutput k)) =
-    (k ≡ interface) × RoseOnce before after × (new ≡ old) × (held' ≡ held)
+    (k ≡ interface) × Rose before after × (new ≡ old) × (held' ≡ held)
 HasTried written faults interface before after old new held held' (Some (outcome.Split counts)) = ⊥
 HasTried written faults interface before after old new held held' (Some (outcome.Malformed at counts)) = ⊥
 HasTried written faults interface before after old new held held' (Some outcome.Unread) = ⊥
@@ -49,17 +50,21 @@ pub record AreOut {S K C : Type 0} (name : ℕ → List ℕ) (handed : List (Out
   pub rest : new ≡ record old { faults = new.faults; outputs = new.outputs }
 
 -- what an output took, by what its sink was when it was handed out
-abbrev pub HasSomeOf : {K : Type 0} → (K → Option (List ℕ)) → (K → ℕ) → Option ℕ → List Event → Output K → Output K → Type 0
-HasSomeOf written faults failed events handed now =
-    (now.interface ≡ handed.interface) × AddedSome written faults failed handed.interface (split_text handed.interface events) handed.sink now.sink
+abbrev pub HasAdded : {K : Type 0} → (ℕ → List ℕ → K → K → Type 0) → List Event → Output K → Output K → Type 0
+HasAdded Holds events handed now = (now.interface ≡ handed.interface) × Holds handed.interface (split_text handed.interface events) handed.sink now.sink
 
--- These octets tell these events first, whatever comes behind them; the interfaces that have a capture by then are those that
--- have an output, which took a front of it, and those that are missing.
-pub record IsSplitPart {K : Type 0} (written : K → Option (List ℕ)) (faults : K → ℕ) (failed : Option ℕ) (missing : List ℕ) (handed held : List (Output K)) (gave : List ℕ) : Type 0 where
+-- These octets tell these events, whatever comes behind them, and the work stopped at the last one, which is of this kind. The
+-- interfaces that have a capture by then are those that have an output, which took so much of it, and those that are missing.
+pub record IsStopped {K : Type 0} (Is : List Event → Event → Type 0) (Took : List Event → Event → ℕ → List ℕ → K → K → Type 0) (missing : List ℕ) (handed held : List (Output K)) (gave : List ℕ) : Type 0 where
+  pub earlier : List Event
+  pub last : Event
   pub events : List Event
-  pub first : (rest : List ℕ) → TellsFirst events (gave ++ rest)
+  pub all : events ≡ earlier ++ last ∷ []
+  pub is : Is earlier last
+  pub next : State
+  pub gone : HasGone (Reading at_start) next gave events
   pub among : (tally no_tally events).split ≡ interfaces_of handed ++ missing
-  pub each : EachOutput (HasSomeOf written faults failed events) handed held
+  pub each : EachOutput (HasAdded (Took earlier last) events) handed held
 
 -- the sink of this interface's output has a fault
 abbrev pub HasSinkFault : {K : Type 0} → (K → ℕ) → ℕ → List (Output K) → Type 0
@@ -76,11 +81,11 @@ EndsSplit written faults world world' source source' handed held gave left (outc
 EndsSplit written faults world world' source source' handed held gave left (outcome.Malformed at counts) =
     ((events : List Event) × IsSplitWhole written counts handed held gave left events (how.Malformed at)) × (source' ≡ source) × SinksStay faults handed held
 EndsSplit written faults world world' source source' handed held gave left outcome.Unread =
-    (part : IsSplitPart written faults None [] handed held gave) × BreaksOff (Reading at_start) gave part.events × Rose source source'
+    ((events : List Event) × (counts : Counts) × IsSplitFront written counts handed held gave events) × Rose source source' × SinksStay faults handed held
 EndsSplit written faults world world' source source' handed held gave left (outcome.Unwritten interface) =
-    IsSplitPart written faults (Some interface) [] handed held gave × (interface < 16) × HasSinkFault faults interface held × (source' ≡ source)
+    IsStopped (IsToWrite interface) (AddedAllBut written faults interface) [] handed held gave × (interface < 16) × HasSinkFault faults interface held × (source' ≡ source)
 EndsSplit written faults world world' source source' handed held gave left (outcome.NoOutput interface) =
-    IsSplitPart written faults None (interface ∷ []) handed held gave × RoseOnce world world' × (interface < 16) × All (λ o. o.interface ≢ interface) handed × (source' ≡ source)
+    IsStopped (IsBeginning interface) (λ earlier last k. AddedAll written faults) (interface ∷ []) handed held gave × Rose world world' × (interface < 16) × All (λ o. o.interface ≢ interface) handed × (source' ≡ source)
 EndsSplit written faults world world' source source' handed held gave left outcome.NoInput = ⊥
 
 -- What a source had left was split, the outputs are held, and it came to this.

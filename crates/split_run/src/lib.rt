@@ -2,8 +2,9 @@
 //!
 //! `split_file` opens the capture, and an output `FILE.K.pcap` for each of the interfaces from 0 to 15 that is Ethernet, as
 //! its description is met (`pcap_split`). `specs/Runs.antt` says what each output holds then, by what came of the capture:
-//! where it was read to its end, or up to a block that is malformed, the whole classic capture of the interface, and else a
-//! front of it. `put_counts` is the line of what was counted.
+//! where it was read to its end, or up to a block that is malformed, the whole classic capture of the interface, and else that
+//! of what was read until the work stopped, which ends within a record or the header only where a write of it failed.
+//! `put_counts` is the line of what was counted.
 #![tactic(auto)]
 
 mod counts_line;

@@ -9,7 +9,7 @@ use Rattle.stream_io.specs.declared.reader.State.{State as Kept}
 use Rattle.stream_io.specs.declared.reader.State.TheVariants as kept
 use Rattle.stream_io.specs.Records.{length_in, IsRecordOf}
 use Rattle.stream_io.specs.Streams.{IsAtFault, IsCut, IsRun}
-use Rattle.stream_io.specs.Readers.{State, Running, Ended, Comes, HasRead, HasReadOne, HasEnded, DecideRecord, ended, longest_reach}
+use Rattle.stream_io.specs.Readers.{State, Running, Ended, Comes, HasRead, HasReadOne, HasEnded, DecideRecord, ended, front_octets, longest_piece, longest_reach}
 use Rattle.stream_io.specs.ReaderStates.{state_of}
 use Rattle.stream_io.specs.Takings.{TakesWhole}
 
@@ -77,15 +77,20 @@ fault_behind place octets rest at_fault =
       fault = elim at_fault.fault [ inl long ↦ inl (omega (arith, long, same)) | inr past ↦ inr (omega (arith, past, same)) ];
     }
 
-pub malformed_read : (place : ℕ) (held gave : List ℕ) (left : Option (List ℕ)) (old : State) → Running place held ≡ old → IsAtFault place (held ++ gave) ⊎ ((held ++ gave ≢ []) × IsCut (held ++ gave) × NothingLeft left) → length (held ++ gave) ≤ longest_reach → HasEnded old (Ended (how.Malformed place)) gave left (how.Malformed place)
-malformed_read place held gave left old is why few =
+pub malformed_read : (place : ℕ) (held gave : List ℕ) (left : Option (List ℕ)) (old : State) → Running place held ≡ old → IsAtFault place (held ++ gave) ⊎ ((held ++ gave ≢ []) × IsCut (held ++ gave) × NothingLeft left) → length (held ++ gave) ≤ longest_reach
+    → (¬ NothingLeft left → length (held ++ gave) ≤ front_octets + longest_piece) → HasEnded old (Ended (how.Malformed place)) gave left (how.Malformed place)
+malformed_read place held gave left old is why few fewer =
     subst (λ (s : State). HasEnded s (Ended (how.Malformed place)) gave left (how.Malformed place)) is (
       refl,
       elim why [
         | inl at_fault ↦ inl (λ seen rest. (refl, inl (subst (λ (l : List ℕ). IsAtFault place l) (append_assoc held gave rest) (fault_behind place (held ++ gave) rest at_fault))))
         | inr cut ↦ inr (cut.2, (refl, inr (refl, cut.0, cut.1)))
       ],
-      λ at same. let e : place ≡ at = cc in omega (arith, few, length-append held gave, e),
+      λ at same.
+          let e : place ≡ at = cc in (
+            omega (arith, few, length-append held gave, e),
+            λ some. let front = fewer some in omega (arith, front, length-append held gave, e),
+          ),
     )
 
 pub failed_read : (place : ℕ) (held gave : List ℕ) (old : State) → Running place held ≡ old → IsCut (held ++ gave) → (IsAtFault place (held ++ gave) → ⊥) → Comes false old gave (ended how.Failed)

@@ -47,6 +47,17 @@ longest_piece = 4096
 abbrev pub longest_reach : ℕ
 longest_reach = longest_record + longest_piece
 
+-- the octets of a length, by which a record is known at fault
+abbrev pub front_octets : ℕ
+front_octets = 4
+
+-- So many octets were taken of an input that is at fault at this place: no more than up to the end of the longest record
+-- there, and where octets are left no more than up to the end of its length, each with one piece. Else what is there was
+-- cut short.
+abbrev pub IsNearStreamFault : ℕ → ℕ → Option (List ℕ) → Type 0
+IsNearStreamFault at taken left =
+    (taken ≤ at + longest_reach) × (¬ NothingLeft left → taken ≤ at + (front_octets + longest_piece))
+
 -- the state holds no place past 2^62
 abbrev pub IsPlaced : State → Type 0
 IsPlaced state = record_place state ≤ 2 ^ 62
@@ -70,13 +81,13 @@ pub record HasReadOne (old new : State) (gave : List ℕ) (arrival : Arrival) : 
   pub all : octets_taken new ≡ octets_taken old + length gave
 
 -- The input ends so, whatever is left behind what was taken; or since nothing is left. From a place at fault on no more was
--- taken than the longest record and one piece have.
+-- taken than the longest record and one piece have, and where octets are left no more than a length and one piece.
 abbrev pub HasEnded : State → State → List ℕ → Option (List ℕ) → How → Type 0
 HasEnded old new gave left ending =
     (new ≡ Ended ending)
     × (((seen : Bool) (rest : List ℕ) → Comes seen old (gave ++ rest) (ended ending))
     ⊎ (NothingLeft left × Comes true old gave (ended ending)))
-    × ((at : ℕ) → ending ≡ how.Malformed at → octets_taken old + length gave ≤ at + longest_reach)
+    × ((at : ℕ) → ending ≡ how.Malformed at → IsNearStreamFault at (octets_taken old + length gave) left)
 
 -- What an answer says of the octets that were taken for it, of the buffer, and of what is left.
 abbrev pub Answers : State → State → List ℕ → List ℕ → Option (List ℕ) → Next → Type 0

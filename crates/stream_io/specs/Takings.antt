@@ -9,7 +9,7 @@ use Rattle.stream_io.specs.declared.record.Taken.{Taken}
 use Rattle.stream_io.specs.declared.record.Taken.TheVariants as taken
 use Rattle.stream_io.specs.Records.{IsRecord}
 use Rattle.stream_io.specs.Streams.{IsAtFault, IsCut}
-use Rattle.stream_io.specs.Readers.{longest_record}
+use Rattle.stream_io.specs.Readers.{front_octets, longest_record}
 
 -- so many octets are held, at least one; or nothing is held, since nothing is left or a read failed
 abbrev pub HoldsAhead : Got → List ℕ → Option (List ℕ) → Type 0
@@ -50,11 +50,12 @@ pub record TakesWhole (place len : ℕ) (octets held buf : List ℕ) : Type 0 wh
   pub frame : len ≤ 1518 → take len buf ≡ drop 4 first
 
 -- Of the record at this place: it was taken; or there is none, since nothing is left; or it is at fault, or cut short by
--- the end of the source, and then no more was taken than the longest record has and is held; or the read of what was still
--- missing failed.
+-- the end of the source, and then no more was taken than the longest record has, and where octets are left no more than its
+-- length, and what is held; or the read of what was still missing failed.
 abbrev pub TakesRecord : Taken → ℕ → List ℕ → List ℕ → List ℕ → Option (List ℕ) → Type 0
 TakesRecord (taken.Whole len) place octets held buf left = TakesWhole place len octets held buf
 TakesRecord taken.End place octets held buf left = (octets ≡ []) × NothingLeft left
 TakesRecord taken.Malformed place octets held buf left =
     (IsAtFault place octets ⊎ ((octets ≢ []) × IsCut octets × NothingLeft left)) × (length octets ≤ longest_record + length held)
+    × (¬ NothingLeft left → length octets ≤ front_octets + length held)
 TakesRecord taken.Failed place octets held buf left = IsCut octets × ¬ IsAtFault place octets

@@ -1,4 +1,4 @@
-ghost use Rattle.std.specs.Prelude.{◌≡◌, ◌≢◌, ◌≤◌, ◌+◌, ◌^◌, ℕ, List, [], IfSome};
+ghost use Rattle.std.specs.Prelude.{◌≡◌, ◌≢◌, ◌<◌, ◌≤◌, ◌+◌, ◌^◌, ℕ, List, [], take, IfSome};
 ghost use Rattle.savi_ends.specs.Octets.{Takes};
 ghost use Rattle.savi_ends.specs.Faults.{Rose};
 
@@ -15,6 +15,8 @@ use std::marker::Model;
 pub struct StreamReader {
     state: State,
     ahead: Ahead,
+    // what of a record was read: only a whole frame goes into the caller's buffer
+    room: [u8; FRAME_OCTETS_MOST],
 }
 
 // What a reader is ready for.
@@ -51,6 +53,7 @@ impl StreamReader {
         StreamReader {
             state: State::Running { place: 0 },
             ahead: Ahead::new(),
+            room: [0; FRAME_OCTETS_MOST],
         }
     }
 
@@ -61,9 +64,10 @@ impl StreamReader {
     /// read. `Malformed` gives the place of the first octet of a record that is longer, is cut short, or ends past place
     /// 2^62. `Failed` comes only where a read failed in this call. After `End`, `Malformed` or `Failed` the reader reads
     /// nothing and answers the same again. It reads the source only while it lacks octets of the record, in pieces as
-    /// large as the source gives them, and keeps what stands behind the record for the next call.
+    /// large as the source gives them, and keeps what stands behind the record for the next call. Where the answer isn't a
+    /// `Frame` the buffer stays as it was.
     ///
-    /// O(n) in the octets of the record.
+    /// O(n) in the octets of the record, those of a frame copied once more.
     pub fn next<S: Source, C: Clock>(
         &mut self,
         source: &mut S,
@@ -73,7 +77,7 @@ impl StreamReader {
         ensures later { S.faults source.old ≤ S.faults source.new }
         ensures cause { result ≡ Next.Failed → self.old ≢ Ended how.Failed → Rose (S.faults source.old) (S.faults source.new) }
         ensures still { result ≢ Next.Failed → S.faults source.new ≡ S.faults source.old }
-        ensures kept { result ≡ Next.End → buf.new ≡ buf.old }
+        ensures kept { ((stamp len : ℕ) → result ≢ Next.Frame stamp len) → buf.new ≡ buf.old }
 
         // There are octets that the source gave in this call, and the answer is what they are behind those that were held.
         ensures octets { (gave : List ℕ) × Takes (S.left source.old) (S.left source.new) gave × Answers self.old self.new gave buf.new (S.left source.new) result }
@@ -107,14 +111,15 @@ impl StreamReader {
         ensures later { S.faults source.old ≤ S.faults source.new }
         ensures cause { result ≡ Next.Failed → Rose (S.faults source.old) (S.faults source.new) }
         ensures still { result ≢ Next.Failed → S.faults source.new ≡ S.faults source.old }
-        ensures kept { result ≡ Next.End → buf.new ≡ buf.old }
+        ensures kept { ((stamp len : ℕ) → result ≢ Next.Frame stamp len) → buf.new ≡ buf.old }
         ensures octets { (gave : List ℕ) × Takes (S.left source.old) (S.left source.new) gave × Answers self.old self.new gave buf.new (S.left source.new) result }
         ensures unread { (at : ℕ) (held : List ℕ) → self.old ≡ Running at held → DecideRecord at held → source.new ≡ source.old }
         ensures stamps { Stamps C.readings clock.old clock.new result }
         ensures placed { IsPlaced self.new }
     {
-        match take_record(&mut self.ahead, source, place, buf) {
+        match take_record(&mut self.ahead, source, place, &mut self.room) {
             Taken::Whole(len) => {
+                copy_frame(len, &self.room, buf);
                 let place = place + (LENGTH_OCTETS as u64 + u64::from(len));
                 self.state = State::Running { place };
                 let stamp = clock.now();
@@ -139,5 +144,16 @@ impl StreamReader {
                 Next::Failed
             }
         }
+    }
+}
+
+// Copies so many octets where they are a frame's; else the buffer stays as it was.
+fn copy_frame(len: u32, room: &[u8; FRAME_OCTETS_MOST], buf: &mut [u8; FRAME_OCTETS_MOST])
+    ensures frame { len ≤ 1518 → take len buf.new ≡ take len room.now }
+    ensures kept { 1518 < len → buf.new ≡ buf.old }
+{
+    let len = len as usize;
+    if len <= FRAME_OCTETS_MOST {
+        buf[..len].copy_from_slice(&room[..len]);
     }
 }

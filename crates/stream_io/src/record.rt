@@ -41,7 +41,6 @@ pub(crate) fn take_record<S: Source>(
     ensures later { S.faults source.old ≤ S.faults source.new }
     ensures cause { result ≡ Taken.Failed → Rose (S.faults source.old) (S.faults source.new) }
     ensures still { result ≢ Taken.Failed → S.faults source.new ≡ S.faults source.old }
-    ensures kept { result ≡ Taken.End → buf.new ≡ buf.old }
     ensures octets { (gave : List ℕ) × Takes (S.left source.old) (S.left source.new) gave × TakesRecord result place (ahead.old ++ gave) ahead.new buf.new (S.left source.new) }
     ensures unread { DecideRecord place ahead.old → source.new ≡ source.old }
 {

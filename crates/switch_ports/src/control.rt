@@ -1,7 +1,7 @@
 //! The opening and the keeping of the ends of control.
 
 ghost use Rattle.std.specs.Prelude.{◌≡◌, ◌≤◌, Some, IfNone, IfOk, IfSome, IsSome, OnErr, OnOk, OnSome};
-ghost use Rattle.savi_ends.specs.Faults.{RoseOnce};
+ghost use Rattle.savi_ends.specs.Faults.{Rose};
 ghost use Rattle.savi_ends.specs.Places.{BothFresh, ControlKey, IsControlKept, IsControlOut, IsReady};
 ghost use Rattle.port_worker.specs.LineInputs.{IsControlUnheard};
 ghost use Rattle.switch_ports.specs.Live.{IsLiveControlOpened};
@@ -30,7 +30,7 @@ pub fn open_control<W: World>(
     ensures as_it_was { OnErr result ((W.book world.new).control ≡ (W.book world.old).control) }
     ensures later { (W.book world.old).faults ≤ (W.book world.new).faults }
     ensures still { OnOk result ((W.book world.new).faults ≡ (W.book world.old).faults) }
-    ensures once { OnErr result (RoseOnce (W.book world.old).faults (W.book world.new).faults) }
+    ensures once { OnErr result (Rose (W.book world.old).faults (W.book world.new).faults) }
     ensures rest { W.book world.new ≡ record (W.book world.old) { faults = (W.book world.new).faults; control = (W.book world.new).control } }
 {
     match names {
@@ -51,7 +51,7 @@ fn open_named<W: World>(
     ensures as_it_was { OnErr result ((W.book world.new).control ≡ (W.book world.old).control) }
     ensures later { (W.book world.old).faults ≤ (W.book world.new).faults }
     ensures still { OnOk result ((W.book world.new).faults ≡ (W.book world.old).faults) }
-    ensures once { OnErr result (RoseOnce (W.book world.old).faults (W.book world.new).faults) }
+    ensures once { OnErr result (Rose (W.book world.old).faults (W.book world.new).faults) }
     ensures rest { W.book world.new ≡ record (W.book world.old) { faults = (W.book world.new).faults; control = (W.book world.new).control } }
 {
     match world.control(source, sink, false) {
@@ -89,7 +89,7 @@ pub fn open_live_control<W: World>(
     ensures as_it_was { OnErr result ((W.book world.new).control ≡ (W.book world.old).control) }
     ensures later { (W.book world.old).faults ≤ (W.book world.new).faults }
     ensures still { OnOk result ((W.book world.new).faults ≡ (W.book world.old).faults) }
-    ensures once { OnErr result (RoseOnce (W.book world.old).faults (W.book world.new).faults) }
+    ensures once { OnErr result (Rose (W.book world.old).faults (W.book world.new).faults) }
     ensures rest { W.book world.new ≡ record (W.book world.old) { faults = (W.book world.new).faults; control = (W.book world.new).control } }
 {
     match names {
@@ -109,7 +109,7 @@ fn open_named_live<W: World>(
     ensures as_it_was { OnErr result ((W.book world.new).control ≡ (W.book world.old).control) }
     ensures later { (W.book world.old).faults ≤ (W.book world.new).faults }
     ensures still { OnOk result ((W.book world.new).faults ≡ (W.book world.old).faults) }
-    ensures once { OnErr result (RoseOnce (W.book world.old).faults (W.book world.new).faults) }
+    ensures once { OnErr result (Rose (W.book world.old).faults (W.book world.new).faults) }
     ensures rest { W.book world.new ≡ record (W.book world.old) { faults = (W.book world.new).faults; control = (W.book world.new).control } }
 {
     match world.control(source, sink, true) {

@@ -4,7 +4,7 @@ ghost use Rattle.std.specs.Prelude.{◌≡◌, ◌≤◌, ◌<◌, ◌++◌, ◌
 ghost use Rattle.std.specs.List.Sorted.{IsStrictlyIncreasing};
 ghost use Rattle.savi_kinds.specs.Ports.{number_of};
 ghost use Rattle.savi_kinds.specs.ValidPlan.{numbers_of};
-ghost use Rattle.savi_ends.specs.Faults.{RoseOnce};
+ghost use Rattle.savi_ends.specs.Faults.{Rose};
 ghost use Rattle.savi_ends.specs.Places.{BothFresh, IsPortOut, IsReady, PortKey};
 ghost use Rattle.switch_ports.specs.Named.{named_by};
 ghost use Rattle.switch_ports.specs.Live.{AreKept, AreOpened, IsNextOf, OthersSame};
@@ -30,7 +30,7 @@ pub fn open_live<W: World>(
     ensures others { OthersSame (numbers_of plans.now) (length held.new.items) (W.book world.old).ports (W.book world.new).ports }
     ensures later { (W.book world.old).faults ≤ (W.book world.new).faults }
     ensures still { IfNone result ((W.book world.new).faults ≡ (W.book world.old).faults) }
-    ensures once { OnSome result (RoseOnce (W.book world.old).faults (W.book world.new).faults) }
+    ensures once { OnSome result (Rose (W.book world.old).faults (W.book world.new).faults) }
     ensures rest { W.book world.new ≡ record (W.book world.old) { faults = (W.book world.new).faults; ports = (W.book world.new).ports } }
 {
     for plan in plans {

@@ -14,6 +14,7 @@ pub fn tell_end<K: Sink>(who: Who, how: How, sink: &mut K) -> Put
     ensures extends { Extends result (K.written sink.old) (K.written sink.new) (end_line who how) }
     ensures later { K.faults sink.old ≤ K.faults sink.new }
     ensures cause { result ≡ Put.Failed → Rose (K.faults sink.old) (K.faults sink.new) }
+    ensures still { result ≡ Put.Done → K.faults sink.new ≡ K.faults sink.old }
 {
     let mut line = EndLine::new();
     put_end_line(&mut line, who, how);
@@ -25,6 +26,7 @@ fn tell_line<K: Sink>(sink: &mut K, line: &[u8]) -> Put
     ensures extends { Extends result (K.written sink.old) (K.written sink.new) line.now }
     ensures later { K.faults sink.old ≤ K.faults sink.new }
     ensures cause { result ≡ Put.Failed → Rose (K.faults sink.old) (K.faults sink.new) }
+    ensures still { result ≡ Put.Done → K.faults sink.new ≡ K.faults sink.old }
 {
     if line.is_empty() {
         Put::Done

@@ -41,6 +41,7 @@ pub fn tell_memory<K: Sink>(sink: &mut K) -> Put
     ensures extends { Extends result (K.written sink.old) (K.written sink.new) memory_line }
     ensures later { K.faults sink.old ≤ K.faults sink.new }
     ensures cause { result ≡ Put.Failed → Rose (K.faults sink.old) (K.faults sink.new) }
+    ensures still { result ≡ Put.Done → K.faults sink.new ≡ K.faults sink.old }
 {
     write_line(sink, "out of memory", "", "\n")
 }
@@ -50,6 +51,7 @@ pub fn tell_usage<K: Sink>(sink: &mut K) -> Put
     ensures extends { Extends result (K.written sink.old) (K.written sink.new) usage_line }
     ensures later { K.faults sink.old ≤ K.faults sink.new }
     ensures cause { result ≡ Put.Failed → Rose (K.faults sink.old) (K.faults sink.new) }
+    ensures still { result ≡ Put.Done → K.faults sink.new ≡ K.faults sink.old }
 {
     sink.write(USAGE.as_bytes())
 }
@@ -59,6 +61,7 @@ pub fn tell_config<K: Sink>(sink: &mut K, fault: ConfFault) -> Put
     ensures extends { Extends result (K.written sink.old) (K.written sink.new) (config_line fault) }
     ensures later { K.faults sink.old ≤ K.faults sink.new }
     ensures cause { result ≡ Put.Failed → Rose (K.faults sink.old) (K.faults sink.new) }
+    ensures still { result ≡ Put.Done → K.faults sink.new ≡ K.faults sink.old }
 {
     match fault {
         ConfFault::NoMemory => tell_memory(sink),
@@ -75,6 +78,7 @@ pub fn tell_unopened<K: Sink>(sink: &mut K, name: &str) -> Put
     ensures extends { Extends result (K.written sink.old) (K.written sink.new) (cannot_open_line name.now) }
     ensures later { K.faults sink.old ≤ K.faults sink.new }
     ensures cause { result ≡ Put.Failed → Rose (K.faults sink.old) (K.faults sink.new) }
+    ensures still { result ≡ Put.Done → K.faults sink.new ≡ K.faults sink.old }
 {
     write_line(sink, "cannot open ", name, "\n")
 }
@@ -84,6 +88,7 @@ pub fn tell_unread<K: Sink>(sink: &mut K, name: &str) -> Put
     ensures extends { Extends result (K.written sink.old) (K.written sink.new) (read_failed_line name.now) }
     ensures later { K.faults sink.old ≤ K.faults sink.new }
     ensures cause { result ≡ Put.Failed → Rose (K.faults sink.old) (K.faults sink.new) }
+    ensures still { result ≡ Put.Done → K.faults sink.new ≡ K.faults sink.old }
 {
     write_line(sink, "", name, ": read failed\n")
 }
@@ -93,6 +98,7 @@ pub fn tell_unwritten<K: Sink>(sink: &mut K, name: &str) -> Put
     ensures extends { Extends result (K.written sink.old) (K.written sink.new) (write_failed_line name.now) }
     ensures later { K.faults sink.old ≤ K.faults sink.new }
     ensures cause { result ≡ Put.Failed → Rose (K.faults sink.old) (K.faults sink.new) }
+    ensures still { result ≡ Put.Done → K.faults sink.new ≡ K.faults sink.old }
 {
     write_line(sink, "", name, ": write failed\n")
 }
@@ -102,6 +108,7 @@ pub fn tell_malformed<K: Sink>(sink: &mut K, name: &str, at: u64) -> Put
     ensures extends { Extends result (K.written sink.old) (K.written sink.new) (malformed_line name.now at) }
     ensures later { K.faults sink.old ≤ K.faults sink.new }
     ensures cause { result ≡ Put.Failed → Rose (K.faults sink.old) (K.faults sink.new) }
+    ensures still { result ≡ Put.Done → K.faults sink.new ≡ K.faults sink.old }
 {
     write_line(sink, "", name, malformed_text(at).as_str())
 }
@@ -123,6 +130,7 @@ fn write_line<K: Sink>(sink: &mut K, before: &str, name: &str, after: &str) -> P
     ensures extends { Extends result (K.written sink.old) (K.written sink.new) (before.now ++ (name.now ++ after.now)) }
     ensures later { K.faults sink.old ≤ K.faults sink.new }
     ensures cause { result ≡ Put.Failed → Rose (K.faults sink.old) (K.faults sink.new) }
+    ensures still { result ≡ Put.Done → K.faults sink.new ≡ K.faults sink.old }
 {
     if let Some(line) = short_line(before, name, after) {
         return sink.write(line.as_slice());
@@ -138,6 +146,7 @@ fn write_both<K: Sink>(sink: &mut K, first: &str, second: &str) -> Put
     ensures extends { Extends result (K.written sink.old) (K.written sink.new) (first.now ++ second.now) }
     ensures later { K.faults sink.old ≤ K.faults sink.new }
     ensures cause { result ≡ Put.Failed → Rose (K.faults sink.old) (K.faults sink.new) }
+    ensures still { result ≡ Put.Done → K.faults sink.new ≡ K.faults sink.old }
 {
     match sink.write(first.as_bytes()) {
         Put::Done => sink.write(second.as_bytes()),

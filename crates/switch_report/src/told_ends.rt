@@ -66,6 +66,7 @@ pub fn tell_each<K: Sink>(ends: &[(Who, How)], sink: &mut K) -> Put
     ensures extends { Extends result (K.written sink.old) (K.written sink.new) (told_lines ends.now) }
     ensures later { K.faults sink.old ≤ K.faults sink.new }
     ensures cause { result ≡ Put.Failed → Rose (K.faults sink.old) (K.faults sink.new) }
+    ensures still { result ≡ Put.Done → K.faults sink.new ≡ K.faults sink.old }
 {
     for told in ends {
         match tell_end(told.0, told.1, sink) {

@@ -3,7 +3,7 @@ use Rattle.std.proofs.Common.{◌≡◌, ◌≢◌, ◌≤◌, ℕ, ◌⊎◌, i
 use Rattle.std.proofs.lemmas.Bool.{false≢true}
 use Rattle.savi_kinds.specs.declared.plan.Plan.{Plan}
 use Rattle.savi_ends.specs.declared.world.Std.TheVariants.{Out}
-use Rattle.savi_ends.specs.Faults.{Rose, RoseOnce}
+use Rattle.savi_ends.specs.Faults.{Rose}
 use Rattle.savi_ends.specs.Octets.{IsFront, behind}
 use Rattle.savi_ends.specs.Places.{Book, IsOnlyOut, IsReady, OthersStay, Place}
 use Rattle.savi_ends.proofs.Ready.{opened_alone}
@@ -76,7 +76,7 @@ module _ {S K C : Type 0} (left : S → Option (List ℕ)) (written : K → Opti
       let none : a.answer ≡ NoMemory = quiet_answer a.text_written a.answer status a.cause (subst (λ (n : ℕ). IsOneOf quiet_statuses n) (sym one) refl) in
       subst (λ (answer : Checked). Says (audit_error file answer)) none a.errors
 
-  opening_of : Did → status ≡ 7 → RoseOnce old.faults new.faults
+  opening_of : Did → status ≡ 7 → Rose old.faults new.faults
   opening_of (inl unopened) seven = unopened.fault
   opening_of (inr (kept, a)) seven =
       absurd (by_answer (λ n. status ≡ n → ⊥) a.text_written a.answer (λ e. omega (arith, e, seven)) (λ e. omega (arith, e, seven)) (λ e. omega (arith, e, seven)) (λ e. omega (arith, e, seven)) (λ e. omega (arith, e, seven)) a.cause)
@@ -101,7 +101,7 @@ module _ {S K C : Type 0} (left : S → Option (List ℕ)) (written : K → Opti
     pub audit_memory : status ≡ 1 → Says memory_line
     audit_memory one = memory_told run.did one
 
-    pub audit_opening : status ≡ 7 → RoseOnce old.faults new.faults
+    pub audit_opening : status ≡ 7 → Rose old.faults new.faults
     audit_opening seven = opening_of run.did seven
 
     pub audit_quiet : IsOneOf quiet_statuses status → (new.std Out ≡ old.std Out) ⊎ ((status ≡ 1) × Keeps (λ told kept. kept ≡ told) (old.std Out) (new.std Out))

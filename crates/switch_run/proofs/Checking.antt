@@ -1,7 +1,7 @@
 -- How the check of a journal ends.
 use Rattle.std.proofs.Common.{◌≡◌, ◌≢◌, ◌≤◌, ℕ, ◌⊎◌, inl, inr, List, [], Bool, true, false, if◌then◌else◌, refl, sym, ap, ◌∙◌, subst, arith, Option, Some, IfSome}
 use Rattle.savi_ends.specs.declared.world.Std.TheVariants.{Out}
-use Rattle.savi_ends.specs.Faults.{RoseOnce}
+use Rattle.savi_ends.specs.Faults.{Rose}
 use Rattle.savi_ends.specs.Places.{Place, Book}
 use Rattle.run_config.specs.Configs.{EndHasFault, EndHasNoFault, OfText}
 use Rattle.journal_check.specs.declared.answer.Checked.{Checked}
@@ -58,13 +58,13 @@ module _ {S K C : Type 0} (left : S → Option (List ℕ)) (written : K → Opti
   pub check_memory : status ≡ 1 → Says memory_line
   check_memory one = memory_told run.did one
 
-  opening_rose : Did → status ≡ 7 → RoseOnce old.faults new.faults
+  opening_rose : Did → status ≡ 7 → Rose old.faults new.faults
   opening_rose (inl unopened) seven = unopened.fault
   opening_rose (inr (kept, inl unjudged)) seven = absurd (omega (arith, seven, unjudged.status_is))
   opening_rose (inr (kept, inr (inl unread))) seven = absurd (omega (arith, seven, unread.status_is))
   opening_rose (inr (kept, inr (inr answered))) seven = absurd (answered_not 7 (λ e. absurd (omega (arith, e))) (λ e. absurd (omega (arith, e))) (λ e. absurd (omega (arith, e))) answered seven)
 
-  pub check_opening : status ≡ 7 → RoseOnce old.faults new.faults
+  pub check_opening : status ≡ 7 → Rose old.faults new.faults
   check_opening seven = opening_rose run.did seven
 
   not_quiet : IsAnswered left written source_faults sink_faults file Says old new status → IsOneOf quiet_statuses status → ⊥

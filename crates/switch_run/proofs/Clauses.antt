@@ -2,7 +2,7 @@
 use Rattle.std.proofs.Common.{◌≡◌, ◌≢◌, ℕ, ◌⊎◌, inl, inr, List, true, false, refl, sym, ap, subst, arith, Option}
 use Rattle.std.specs.Prelude.{◌↔◌}
 use Rattle.savi_ends.specs.declared.world.Std.TheVariants.{Out}
-use Rattle.savi_ends.specs.Faults.{RoseOnce}
+use Rattle.savi_ends.specs.Faults.{Rose}
 use Rattle.savi_ends.specs.Places.{Book}
 use Rattle.run_config.specs.Words.{IsCheck, IsForm, IsGen, IsReplay, IsServe, IsSplitWords}
 use Rattle.switch_report.specs.RunLines.{memory_line, usage_line}
@@ -29,7 +29,7 @@ pub record Clauses {S K C : Type 0} (left : S → Option (List ℕ)) (written : 
   pub memory : status ≡ 1 → WasTold sink_faults written old new memory_line
   pub unplayed : (file : List ℕ) → IsReplay file words → status ≡ 1 → IsUnplayed true left written source_faults file old new
   pub config : (file : List ℕ) → IsReplay file words → status ≡ 3 → IsNoPlan true left source_faults file (WasTold sink_faults written old new) old new
-  pub opening : status ≡ 7 → RoseOnce old.faults new.faults
+  pub opening : status ≡ 7 → Rose old.faults new.faults
   pub still : status ≢ 7 → new.faults ≡ old.faults
   pub unopened : (file : List ℕ) → IsReplay file words → status ≡ 7 → IsUnopened true left source_faults file (WasTold sink_faults written old new) old new
   pub session : (file : List ℕ) → IsReplay file words → IsOneOf session_statuses status

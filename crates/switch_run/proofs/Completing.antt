@@ -12,7 +12,7 @@ use Rattle.savi_kinds.specs.Ports.{number_of}
 use Rattle.savi_kinds.specs.ValidPlan.{numbers_of}
 use Rattle.savi_ends.specs.declared.world.Std.TheVariants.{Out}
 use Rattle.savi_ends.specs.declared.world.Ends.{Ends}
-use Rattle.savi_ends.specs.Faults.{RoseOnce}
+use Rattle.savi_ends.specs.Faults.{Rose}
 use Rattle.savi_ends.specs.Places.{Place, Book, ControlKey}
 use Rattle.pcapng_io.specs.Runs.{Event}
 use Rattle.pcapng_io.specs.Runs as events
@@ -95,7 +95,7 @@ malformed_by status false false true is e = refl
 malformed_by status false false false is e = absurd (omega (arith, is, e))
 
 -- no opening failed where the world's count didn't rise
-not_risen : (before now : ℕ) → before ≡ 0 → now ≡ before → RoseOnce before now → ⊥
+not_risen : (before now : ℕ) → before ≡ 0 → now ≡ before → Rose before now → ⊥
 not_risen before now zero_is same rose = omega (arith, zero_is, same, rose)
 
 -- the plan

@@ -3,7 +3,7 @@ use Rattle.std.proofs.Common.{◌≡◌, ◌≢◌, ℕ, inl, inr, List, true, f
 use Rattle.savi_kinds.specs.declared.plan.Plan.{Plan}
 use Rattle.savi_ends.specs.declared.world.Std.TheVariants.{Out}
 use Rattle.savi_ends.specs.declared.world.Ends.{Ends}
-use Rattle.savi_ends.specs.Faults.{RoseOnce}
+use Rattle.savi_ends.specs.Faults.{Rose}
 use Rattle.savi_ends.specs.Places.{Book, Place, PortKey, OthersStay}
 use Rattle.run_config.specs.declared.refusal.Refusal.{Refusal}
 use Rattle.run_config.specs.declared.refusal.Refusal.TheVariants as refusal
@@ -21,7 +21,7 @@ module _ {S K C : Type 0} (left : S → Option (List ℕ)) (written : K → Opti
     (read : b1 ≡ record b0 { faults = b1.faults; inputs = b1.inputs }) (inputs : OthersStay b0.inputs b1.inputs file) where
   -- with a plan
   module _ (plan : Plan) (configured : IsConfigured true left (b0.inputs file) plan) (input : IsReadThrough left (b0.inputs file) (b1.inputs file)) (still : EndHasNoFault source_faults (b1.inputs file)) (world_still : b1.faults ≡ b0.faults)
-      (one_of : IsOneOf statuses status) (usage : status ≢ 2) (config : status ≢ 3) (memory : status ≡ 1 → Says memory_line) (unplayed : status ≡ 1 → b2 ≡ b1) (rose : status ≡ 7 → RoseOnce b1.faults b2.faults) (unfailed : status ≢ 7 → b2.faults ≡ b1.faults) (unopened : status ≡ 7 → IsPortUnopened plan Says b1 b2)
+      (one_of : IsOneOf statuses status) (usage : status ≢ 2) (config : status ≢ 3) (memory : status ≡ 1 → Says memory_line) (unplayed : status ≡ 1 → b2 ≡ b1) (rose : status ≡ 7 → Rose b1.faults b2.faults) (unfailed : status ≢ 7 → b2.faults ≡ b1.faults) (unopened : status ≡ 7 → IsPortUnopened plan Says b1 b2)
       (learning : IsOneOf session_statuses status → IsLearningOf left written source_faults sink_faults plan window Says b1 b2 status) (quiet : IsOneOf quiet_statuses status → b2.std Out ≡ b1.std Out)
       (unused : IsOneOf unused_statuses status → IsUnusedOf false plan b1 b2) (rest : b2 ≡ record b1 { faults = b2.faults; ports = b2.ports; std = b2.std }) where
     inputs_same : b2.inputs ≡ b1.inputs
@@ -55,7 +55,7 @@ module _ {S K C : Type 0} (left : S → Option (List ℕ)) (written : K → Opti
         memory = memory;
         unplayed = λ one. record { input = inr (input_read, still_read); ends = inl (unserved one) };
         config = λ three. absurd (config three);
-        opening = λ seven. subst (λ (n : ℕ). RoseOnce n b2.faults) world_still (rose seven);
+        opening = λ seven. subst (λ (n : ℕ). Rose n b2.faults) world_still (rose seven);
         still = λ other. unfailed other ∙ world_still;
         unopened = λ seven. inr (record {
           plan = plan;

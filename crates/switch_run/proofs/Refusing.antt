@@ -2,7 +2,7 @@
 use Rattle.std.proofs.Common.{◌≡◌, ◌≢◌, ℕ, ◌⊎◌, inl, inr, List, Bool, true, false, refl, subst, arith, Option}
 use Rattle.savi_conf.specs.declared.fault.ConfFault.{ConfFault}
 use Rattle.savi_ends.specs.declared.world.Std.TheVariants.{Out}
-use Rattle.savi_ends.specs.Faults.{RoseOnce}
+use Rattle.savi_ends.specs.Faults.{Rose}
 use Rattle.savi_ends.specs.Places.{Book, OthersStay}
 use Rattle.run_config.specs.declared.refusal.Refusal.{Refusal}
 use Rattle.run_config.specs.declared.refusal.Refusal.TheVariants as refusal
@@ -21,7 +21,7 @@ both (inr p) (inl same) = inl same
 both (inr p) (inr q) = inr (p, q)
 
 pub refuses : {S K C : Type 0} (replay : Bool) (left : S → Option (List ℕ)) (written : K → Option (List ℕ)) (source_faults : S → ℕ) (file : List ℕ) (Says : List ℕ → Type 0) (Session : Type 0) (r : Refusal) (old new : Book S K C) (status : ℕ)
-    → status ≡ refusal_status r → Says (refusal_line file r) → ((fault : ConfFault) → r ≡ refusal.Refused fault → IsRefused replay left (old.inputs file) fault) → (r ≡ refusal.CannotOpen → RoseOnce old.faults new.faults) → (r ≢ refusal.CannotOpen → new.faults ≡ old.faults) → (r ≡ refusal.ReadFailed → EndHasFault source_faults (new.inputs file))
+    → status ≡ refusal_status r → Says (refusal_line file r) → ((fault : ConfFault) → r ≡ refusal.Refused fault → IsRefused replay left (old.inputs file) fault) → (r ≡ refusal.CannotOpen → Rose old.faults new.faults) → (r ≢ refusal.CannotOpen → new.faults ≡ old.faults) → (r ≡ refusal.ReadFailed → EndHasFault source_faults (new.inputs file))
     → (r ≢ refusal.ReadFailed → r ≢ refusal.CannotOpen → r ≢ refusal.NoMemory → EndHasNoFault source_faults (new.inputs file)) → (r ≡ refusal.NoMemory → (new.inputs file ≡ old.inputs file) ⊎ EndHasNoFault source_faults (new.inputs file))
     → (r ≡ refusal.CannotOpen → new.inputs file ≡ old.inputs file) → (r ≡ refusal.ReadFailed → IsReadFrom left (old.inputs file) (new.inputs file)) → (r ≢ refusal.ReadFailed → r ≢ refusal.CannotOpen → r ≢ refusal.NoMemory → IsReadThrough left (old.inputs file) (new.inputs file)) → (r ≡ refusal.NoMemory → (new.inputs file ≡ old.inputs file) ⊎ IsReadThrough left (old.inputs file) (new.inputs file)) → IsUnserved old new
     → new.std Out ≡ old.std Out → OthersStay old.inputs new.inputs file → IsRunOf replay left written source_faults file Says Session old new status

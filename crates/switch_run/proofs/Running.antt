@@ -5,7 +5,7 @@ use Rattle.savi_kinds.specs.declared.plan.Plan.{Plan}
 use Rattle.savi_kinds.specs.ValidPlan.{numbers_of}
 use Rattle.savi_ends.specs.declared.world.Std.TheVariants.{Out, Err}
 use Rattle.savi_ends.specs.declared.world.Ends.{Ends}
-use Rattle.savi_ends.specs.Faults.{RoseOnce}
+use Rattle.savi_ends.specs.Faults.{Rose}
 use Rattle.savi_ends.specs.Places.{Place, Book, PortKey, ControlKey, OthersStay}
 use Rattle.run_config.specs.Configs.{EndHasFault, EndHasNoFault, IsConfigured, IsReadFrom, IsReadThrough, IsRefused}
 use Rattle.switch_ports.specs.Named.{control_key, named_by}
@@ -36,11 +36,11 @@ pub record Ran {S K C : Type 0} (b0 b1 b2 b3 : Book S K C) (e e' : K) : Type 0 w
 pub ran_told : {S K C : Type 0} (faults : K → ℕ) (written : K → Option (List ℕ)) (b0 b1 b2 b3 : Book S K C) (e e' : K) (lines : List ℕ) → Ran b0 b1 b2 b3 e e' → ToldBy faults written e e' lines → WasTold faults written b0 b3 lines
 ran_told faults written b0 b1 b2 b3 e e' lines ran says = told_at faults written b0 b3 e e' lines ran.told ran.kept says
 
-pub ran_open : {S K C : Type 0} (b0 b1 b2 b3 : Book S K C) (e e' : K) → Ran b0 b1 b2 b3 e e' → RoseOnce b1.faults b2.faults → RoseOnce b0.faults b3.faults
+pub ran_open : {S K C : Type 0} (b0 b1 b2 b3 : Book S K C) (e e' : K) → Ran b0 b1 b2 b3 e e' → Rose b1.faults b2.faults → Rose b0.faults b3.faults
 ran_open {S} {K} {C} b0 b1 b2 b3 e e' ran rose =
     let first = ap (λ (b : Book S K C). b.faults) ran.rest1 in
     let last = ap (λ (b : Book S K C). b.faults) ran.rest3 in
-    subst (λ (n : ℕ). RoseOnce n b3.faults) first (subst (λ (n : ℕ). RoseOnce b1.faults n) (sym last) rose)
+    subst (λ (n : ℕ). Rose n b3.faults) first (subst (λ (n : ℕ). Rose b1.faults n) (sym last) rose)
 
 pub ran_unfailed : {S K C : Type 0} (b0 b1 b2 b3 : Book S K C) (e e' : K) → Ran b0 b1 b2 b3 e e' → b2.faults ≡ b1.faults → b3.faults ≡ b0.faults
 ran_unfailed {S} {K} {C} b0 b1 b2 b3 e e' ran same = ap (λ (b : Book S K C). b.faults) ran.rest3 ∙ same ∙ ap (λ (b : Book S K C). b.faults) ran.rest1

@@ -4,7 +4,7 @@ use Rattle.savi_ends.specs.declared.sink.Put.{Put}
 use Rattle.savi_ends.specs.declared.sink.Put.TheVariants.{Failed}
 use Rattle.savi_ends.specs.declared.world.Std.{Std}
 use Rattle.savi_ends.specs.declared.world.Std.TheVariants.{Out}
-use Rattle.savi_ends.specs.Faults.{Rose, RoseOnce}
+use Rattle.savi_ends.specs.Faults.{Rose}
 use Rattle.savi_ends.specs.Places.{Place, Book}
 use Rattle.savi_ends.specs.Writes.{Extends}
 use Rattle.pcap_split.specs.declared.counts.Counts.{Counts}
@@ -31,7 +31,7 @@ by_count written faults Says counts error answered old new status P this six tol
 
 -- what holds of the statuses of a capture that was opened holds of this one; and where it is 7, something couldn't be
 by_told : {S K C : Type 0} (left : S → Option (List ℕ)) (written : K → Option (List ℕ)) (source_faults : S → ℕ) (sink_faults : K → ℕ) (file : List ℕ) (Says : List ℕ → Type 0) (old new : Book S K C) (status : ℕ) (P : ℕ → Type 0) (outcome : Outcome)
-    → P 0 → P 4 → P 5 → P 6 → (RoseOnce old.faults new.faults → new.std Out ≡ old.std Out → P 7)
+    → P 0 → P 4 → P 5 → P 6 → (Rose old.faults new.faults → new.std Out ≡ old.std Out → P 7)
     → CameTo left written source_faults sink_faults file old new outcome → IsTold written sink_faults Says file outcome (old.std Out) (new.std Out) status → P status
 by_told left written source_faults sink_faults file Says old new status P (outcome.Split counts) zero four five six seven came told = by_count written sink_faults Says counts _ 0 (old.std Out) (new.std Out) status P zero six told
 by_told left written source_faults sink_faults file Says old new status P (outcome.Malformed at counts) zero four five six seven came told = by_count written sink_faults Says counts _ 4 (old.std Out) (new.std Out) status P four six told
@@ -41,7 +41,7 @@ by_told left written source_faults sink_faults file Says old new status P (outco
 by_told left written source_faults sink_faults file Says old new status P outcome.NoInput zero four five six seven came told = subst P (sym told.cause) (seven came.0 told.out)
 
 module _ {S K C : Type 0} (left : S → Option (List ℕ)) (written : K → Option (List ℕ)) (source_faults : S → ℕ) (sink_faults : K → ℕ) (file : List ℕ) (Says : List ℕ → Type 0) (old new : Book S K C) (status : ℕ) where
-  by_status : (P : ℕ → Type 0) → P 0 → (Says memory_line → new.std Out ≡ old.std Out → P 1) → P 4 → P 5 → P 6 → (RoseOnce old.faults new.faults → new.std Out ≡ old.std Out → P 7) → IsCaptureRun left written source_faults sink_faults file Says old new status → P status
+  by_status : (P : ℕ → Type 0) → P 0 → (Says memory_line → new.std Out ≡ old.std Out → P 1) → P 4 → P 5 → P 6 → (Rose old.faults new.faults → new.std Out ≡ old.std Out → P 7) → IsCaptureRun left written source_faults sink_faults file Says old new status → P status
   by_status P zero one four five six seven (inl unsplit) = subst P (sym unsplit.told.cause) (one unsplit.told.errors unsplit.told.out)
   by_status P zero one four five six seven (inr split) = by_told left written source_faults sink_faults file Says old new status P split.outcome zero four five six seven split.came split.told
 
@@ -56,9 +56,9 @@ module _ {S K C : Type 0} (left : S → Option (List ℕ)) (written : K → Opti
   capture_memory run =
       by_status (λ n. n ≡ 1 → Says memory_line) (λ e. absurd (omega (arith, e))) (λ told out e. told) (λ e. absurd (omega (arith, e))) (λ e. absurd (omega (arith, e))) (λ e. absurd (omega (arith, e))) (λ rose out e. absurd (omega (arith, e))) run
 
-  pub capture_opening : IsCaptureRun left written source_faults sink_faults file Says old new status → status ≡ 7 → RoseOnce old.faults new.faults
+  pub capture_opening : IsCaptureRun left written source_faults sink_faults file Says old new status → status ≡ 7 → Rose old.faults new.faults
   capture_opening run =
-      by_status (λ n. n ≡ 7 → RoseOnce old.faults new.faults) (λ e. absurd (omega (arith, e))) (λ told out e. absurd (omega (arith, e))) (λ e. absurd (omega (arith, e))) (λ e. absurd (omega (arith, e))) (λ e. absurd (omega (arith, e))) (λ rose out e. rose) run
+      by_status (λ n. n ≡ 7 → Rose old.faults new.faults) (λ e. absurd (omega (arith, e))) (λ told out e. absurd (omega (arith, e))) (λ e. absurd (omega (arith, e))) (λ e. absurd (omega (arith, e))) (λ e. absurd (omega (arith, e))) (λ rose out e. rose) run
 
   pub capture_out : IsCaptureRun left written source_faults sink_faults file Says old new status → IsOneOf quiet_statuses status → new.std Out ≡ old.std Out
   capture_out run =

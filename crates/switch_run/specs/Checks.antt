@@ -2,7 +2,7 @@
 -- else was touched.
 use Rattle.std.specs.Prelude.{◌≡◌, ◌≢◌, ◌≤◌, ◌⊎◌, ℕ, Bool, if◌then◌else◌, List, [], Option}
 use Rattle.savi_ends.specs.declared.world.Std.TheVariants.{Out}
-use Rattle.savi_ends.specs.Faults.{RoseOnce}
+use Rattle.savi_ends.specs.Faults.{Rose}
 use Rattle.savi_ends.specs.Places.{Book, OthersStay}
 use Rattle.run_config.specs.Configs.{EndHasFault, EndHasNoFault, OfText}
 use Rattle.journal_check.specs.declared.answer.Checked.{Checked}
@@ -41,7 +41,7 @@ IsTextRead NoMemory = ⊥
 -- The file could not be opened, which was tried once, and its place is as it was.
 pub record IsCheckedUnopened {S K C : Type 0} (file : List ℕ) (Says : List ℕ → Type 0) (old new : Book S K C) (status : ℕ) : Type 0 where
   pub status_is : status ≡ 7
-  pub fault : RoseOnce old.faults new.faults
+  pub fault : Rose old.faults new.faults
   pub errors : Says (cannot_open_line file)
   pub place : new.inputs file ≡ old.inputs file
   pub out : new.std Out ≡ old.std Out

@@ -1,7 +1,7 @@
 -- What a run has done, by its status, before standard error is kept.
 use Rattle.std.specs.Prelude.{◌≡◌, ◌≢◌, ◌⊎◌, ℕ, Bool, true, false, List, Option}
 use Rattle.savi_ends.specs.declared.world.Std.TheVariants.{Out}
-use Rattle.savi_ends.specs.Faults.{RoseOnce}
+use Rattle.savi_ends.specs.Faults.{Rose}
 use Rattle.savi_ends.specs.Places.{Book, OthersStay}
 use Rattle.switch_report.specs.RunLines.{memory_line}
 use Rattle.switch_run.specs.Causes.{IsOneOf, IsUnused, quiet_statuses, session_statuses, statuses, unused_statuses}
@@ -15,7 +15,7 @@ pub record IsRunOf {S K C : Type 0} (replay : Bool) (left : S → Option (List �
   pub memory : status ≡ 1 → Says memory_line
   pub unplayed : status ≡ 1 → IsUnplayed replay left written source_faults file old new
   pub config : status ≡ 3 → IsNoPlan replay left source_faults file Says old new
-  pub opening : status ≡ 7 → RoseOnce old.faults new.faults
+  pub opening : status ≡ 7 → Rose old.faults new.faults
   pub still : status ≢ 7 → new.faults ≡ old.faults
   pub unopened : status ≡ 7 → IsUnopened replay left source_faults file Says old new
   pub session : IsOneOf session_statuses status → IsFileUnread left source_faults file Says old new status ⊎ Session

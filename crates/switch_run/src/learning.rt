@@ -4,7 +4,7 @@ ghost use Rattle.std.specs.Prelude.{◌≡◌, ◌≢◌, ◌≤◌, true, false
 ghost use Rattle.std.specs.List.{list_any};
 ghost use Rattle.savi_ends.specs.declared.sink.Put.{Put};
 ghost use Rattle.savi_ends.specs.declared.world.Std.{Std};
-ghost use Rattle.savi_ends.specs.Faults.{RoseOnce};
+ghost use Rattle.savi_ends.specs.Faults.{Rose};
 ghost use Rattle.savi_ends.specs.Places.{BothFresh, IsReady, OthersStay};
 ghost use Rattle.run_config.specs.Configs.{IsBuilt};
 ghost use Rattle.learn_run.specs.Begun.{IsBegun};
@@ -65,7 +65,7 @@ fn learn_plan<W: World>(
     ensures config { result ≡ 3 → ⊥ }
     ensures memory { result ≡ 1 → ToldBy W.K.faults W.K.written errors.old errors.new memory_line }
     ensures unplayed { result ≡ 1 → W.book world.new ≡ W.book world.old }
-    ensures open { result ≡ 7 → RoseOnce (W.book world.old).faults (W.book world.new).faults }
+    ensures open { result ≡ 7 → Rose (W.book world.old).faults (W.book world.new).faults }
     ensures still { result ≢ 7 → (W.book world.new).faults ≡ (W.book world.old).faults }
     ensures unopened { result ≡ 7 → IsPortUnopened plan.now (ToldBy W.K.faults W.K.written errors.old errors.new) (W.book world.old) (W.book world.new) }
     ensures learning { IsOneOf session_statuses result → IsLearningOf W.S.left W.K.written W.S.faults W.K.faults plan.now window (ToldBy W.K.faults W.K.written errors.old errors.new) (W.book world.old) (W.book world.new) result }

@@ -4,7 +4,7 @@ ghost use Rattle.std.specs.Prelude.{◌≡◌, ◌≢◌, ◌⊎◌, ◌≤◌, 
 ghost use Rattle.savi_kinds.specs.Ports.{number_of};
 ghost use Rattle.savi_kinds.specs.ValidPlan.{numbers_of};
 ghost use Rattle.savi_ends.specs.declared.world.Std.{Std};
-ghost use Rattle.savi_ends.specs.Faults.{RoseOnce};
+ghost use Rattle.savi_ends.specs.Faults.{Rose};
 ghost use Rattle.savi_ends.specs.Places.{BothFresh, IsReady, OthersStay};
 ghost use Rattle.run_config.specs.Configs.{IsBuilt};
 ghost use Rattle.switch_report.specs.RunLines.{memory_line};
@@ -81,7 +81,7 @@ where
     ensures config { result ≡ 3 → ⊥ }
     ensures memory { result ≡ 1 → ToldBy W.K.faults W.K.written errors.old errors.new memory_line }
     ensures unplayed { result ≡ 1 → IsUnserved (W.book world.old) (W.book world.new) ⊎ (KeepsAll true W.S.left W.K.written plan (W.book world.old) (W.book world.new) × IsOffPlanSame plan (W.book world.old) (W.book world.new)) }
-    ensures open { result ≡ 7 → RoseOnce (W.book world.old).faults (W.book world.new).faults }
+    ensures open { result ≡ 7 → Rose (W.book world.old).faults (W.book world.new).faults }
     ensures still { result ≢ 7 → (W.book world.new).faults ≡ (W.book world.old).faults }
     ensures unopened { result ≡ 7 → IsPartUnopened true plan (ToldBy W.K.faults W.K.written errors.old errors.new) (W.book world.old) (W.book world.new) }
     ensures unticked { result ≡ 7 → (W.book world.new).ticker ≡ (W.book world.old).ticker }

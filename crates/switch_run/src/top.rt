@@ -3,7 +3,7 @@
 ghost use Rattle.std.specs.Prelude.{◌≡◌, ◌≢◌, ◌↔◌, ◌⊎◌, ◌≤◌, ℕ, true, false, List, IfSome, [], length, map, vec_capacity};
 ghost use Rattle.std.specs.String.{string_bytes};
 ghost use Rattle.savi_ends.specs.declared.world.Std.{Std};
-ghost use Rattle.savi_ends.specs.Faults.{RoseOnce};
+ghost use Rattle.savi_ends.specs.Faults.{Rose};
 ghost use Rattle.savi_ends.specs.Places.{BothFresh, HandedNothing, IsReady, OthersStay};
 ghost use Rattle.run_config.specs.Configs.{EndHasFault, IsBuilt};
 ghost use Rattle.switch_report.specs.RunLines.{memory_line, usage_line};
@@ -89,7 +89,7 @@ where
     ensures memory { result ≡ 1 → WasTold W.K.faults W.K.written (W.book world.old) (W.book world.new) memory_line }
     ensures unplayed { (file : List ℕ) → IsReplay file (map string_bytes words.now) → result ≡ 1 → IsUnplayed true W.S.left W.K.written W.S.faults file (W.book world.old) (W.book world.new) }
     ensures config { (file : List ℕ) → IsReplay file (map string_bytes words.now) → result ≡ 3 → IsNoPlan true W.S.left W.S.faults file (WasTold W.K.faults W.K.written (W.book world.old) (W.book world.new)) (W.book world.old) (W.book world.new) }
-    ensures open { result ≡ 7 → RoseOnce (W.book world.old).faults (W.book world.new).faults }
+    ensures open { result ≡ 7 → Rose (W.book world.old).faults (W.book world.new).faults }
     ensures still { result ≢ 7 → (W.book world.new).faults ≡ (W.book world.old).faults }
     ensures unopened { (file : List ℕ) → IsReplay file (map string_bytes words.now) → result ≡ 7 → IsUnopened true W.S.left W.S.faults file (WasTold W.K.faults W.K.written (W.book world.old) (W.book world.new)) (W.book world.old) (W.book world.new) }
     ensures session { (file : List ℕ) → IsReplay file (map string_bytes words.now) → IsOneOf session_statuses result → IsFileUnread W.S.left W.S.faults file (WasTold W.K.faults W.K.written (W.book world.old) (W.book world.new)) (W.book world.old) (W.book world.new) result ⊎ IsSession W.S.left W.K.written W.S.faults W.K.faults file (WasTold W.K.faults W.K.written (W.book world.old) (W.book world.new)) (W.book world.old) (W.book world.new) result }
@@ -181,7 +181,7 @@ fn replay_plan<W: World>(alloc: Global, plan: Plan, world: &mut W, errors: &mut 
     ensures config { result ≡ 3 → ⊥ }
     ensures memory { result ≡ 1 → ToldBy W.K.faults W.K.written errors.old errors.new memory_line }
     ensures unplayed { result ≡ 1 → IsUnserved (W.book world.old) (W.book world.new) ⊎ (KeepsAll false W.S.left W.K.written plan (W.book world.old) (W.book world.new) × IsOffPlanSame plan (W.book world.old) (W.book world.new)) }
-    ensures open { result ≡ 7 → RoseOnce (W.book world.old).faults (W.book world.new).faults }
+    ensures open { result ≡ 7 → Rose (W.book world.old).faults (W.book world.new).faults }
     ensures still { result ≢ 7 → (W.book world.new).faults ≡ (W.book world.old).faults }
     ensures unopened { result ≡ 7 → IsPartUnopened false plan (ToldBy W.K.faults W.K.written errors.old errors.new) (W.book world.old) (W.book world.new) }
     ensures session { IsOneOf session_statuses result → IsSessionOf W.S.left W.K.written W.S.faults W.K.faults plan (ToldBy W.K.faults W.K.written errors.old errors.new) (W.book world.old) (W.book world.new) result }

@@ -7,7 +7,7 @@ one_digit : (n : ℕ) → n < 10 → length (decimal n) ≡ 1
 one_digit n low = ap length (decimal_digit n low)
 
 pub push-requires : goal.push-requires
-push-requires c = (omega arith, omega (arith, one_digit c.args.n (omega (arith, c.if-n-lt10.true)), c.requires))
+push-requires c = omega (arith, one_digit c.args.n (omega (arith, c.if-n-lt10.true)), c.requires)
 
 pub returns-then-n-lt10-clause-text : goal.returns-then-n-lt10-clause-text
 returns-then-n-lt10-clause-text c = c.push.ensures.items ∙ ap (λ (t : List ℕ). c.args.into.now.items ++ t) (sym (decimal_digit c.args.n (omega (arith, c.if-n-lt10.true))))

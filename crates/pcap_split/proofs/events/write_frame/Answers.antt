@@ -26,10 +26,12 @@ returns-in-Failed g c =
     let here = c.in-Some.ensures.some in
     let x = c.index-outputs-place.result in
     let y = c.put.new.sink in
-    let later = c.put.ensures.later in
     let rose = (c.in-Failed.ensures.cause refl) in
     let text = c.in-Failed.ensures.extends in (
-      one_front g.K.Sink.written g.K.Sink.faults c.args.outputs.now c.in-Some.place c.args.interface c.args.stamp c.args.frame.now x y here later text,
+      c.args.stamp,
+      c.args.frame.now,
+      refl,
+      one_front g.K.Sink.written g.K.Sink.faults c.args.outputs.now c.in-Some.place c.args.interface c.args.stamp c.args.frame.now x y c.requires.differ here rose text,
       (omega arith, rw (has_place c.args.outputs.now c.in-Some.place c.args.interface here) (ap (tally_of _) (append-nil (interfaces_of c.args.outputs.now)))),
       one_risen g.K.Sink.faults c.args.outputs.now c.in-Some.place c.args.interface x y here rose,
     )

@@ -39,68 +39,22 @@ returns-then-stands_at-clause-octets g c =
     let rest = c.in_ok-read_section.ensures.octets in
     (head ++ rest.0, takes_more head rest.0 _ _ _ first rest.1, rest.2 c.args.buf.now)
 
-pub returns-in_err-whole-in-1-clause-octets : goal.returns-in_err-whole-in-1-clause-octets
-returns-in_err-whole-in-1-clause-octets g c =
-    let p = err_from_is_err_and c.from_residual-in_err-whole-in-1.result c.from_residual-in_err-whole-in-1.ensures.1 in
+pub returns-in_err-read_within-clause-octets : goal.returns-in_err-read_within-clause-octets
+returns-in_err-read_within-clause-octets g c =
+    let p = err_from_is_err_and c.from_residual-in_err-read_within.result c.from_residual-in_err-read_within.ensures.1 in
     let s = standing_of c.args.position.now in
     let took = c.in-Whole.ensures.octets in
     let head = c.fill.new.buf in
     let size : length head ≡ 8 = omega (arith, c.fill.auto.buf) in
     let first = takes_whole _ _ took.0 head took.1 took.2 in
-    let rest = c.in_err-whole-in-1.ensures.octets in
-    let left = g.S.Source.left c.read_interface.new.source in
-    (head ++ rest.0, takes_more head rest.0 _ _ _ first rest.1, rw (p.1, p.2) (stops_here s head rest.0 c.in_err-whole-in-1.field-0.0 left size rest.2.0 rest.2.1 (λ failed order here other. fits_by s c.in_ok-order.order order head 20 (lit≤ tt) (c.ok_or.ensures.ok_part ∙ ap result_ok c.in_ok-order.was) here (c.in_err-whole-in-1.ensures.sound (cc failed)))))
+    let rest = c.in_err-read_within.ensures.octets in
+    let left = g.S.Source.left c.read_within.new.source in
+    (head ++ rest.0, takes_more head rest.0 _ _ _ first rest.1, rw (p.1, p.2) (stops_here s head rest.0 c.in_err-read_within.field-0.0 left size rest.2.0 rest.2.1 (λ failed order here other. fits_by s c.in_ok-order.order order head 12 (lit≤ tt) (c.ok_or.ensures.ok_part ∙ ap result_ok c.in_ok-order.was) here (c.in_err-read_within.ensures.sound (cc failed)))))
 
-pub returns-in_err-whole-in-6-clause-octets : goal.returns-in_err-whole-in-6-clause-octets
-returns-in_err-whole-in-6-clause-octets g c =
-    let p = err_from_is_err_and c.from_residual-in_err-whole-in-6.result c.from_residual-in_err-whole-in-6.ensures.1 in
-    let s = standing_of c.args.position.now in
+pub returns-clause-octets : goal.returns-clause-octets
+returns-clause-octets g c =
     let took = c.in-Whole.ensures.octets in
     let head = c.fill.new.buf in
-    let size : length head ≡ 8 = omega (arith, c.fill.auto.buf) in
     let first = takes_whole _ _ took.0 head took.1 took.2 in
-    let rest = c.in_err-whole-in-6.ensures.octets in
-    let left = g.S.Source.left c.read_packet.new.source in
-    (head ++ rest.0, takes_more head rest.0 _ _ _ first rest.1, rw (p.1, p.2) (stops_here s head rest.0 c.in_err-whole-in-6.field-0.0 left size rest.2.0 rest.2.1 (λ failed order here other. fits_by s c.in_ok-order.order order head 32 (lit≤ tt) (c.ok_or.ensures.ok_part ∙ ap result_ok c.in_ok-order.was) here (c.in_err-whole-in-6.ensures.sound (cc failed)))))
-
-pub returns-in_err-whole-in_default-clause-octets : goal.returns-in_err-whole-in_default-clause-octets
-returns-in_err-whole-in_default-clause-octets g c =
-    let p = err_from_is_err_and c.from_residual-in_err-whole-in_default.result c.from_residual-in_err-whole-in_default.ensures.1 in
-    let s = standing_of c.args.position.now in
-    let took = c.in-Whole.ensures.octets in
-    let head = c.fill.new.buf in
-    let size : length head ≡ 8 = omega (arith, c.fill.auto.buf) in
-    let first = takes_whole _ _ took.0 head took.1 took.2 in
-    let rest = c.in_err-whole-in_default.ensures.octets in
-    let left = g.S.Source.left c.read_other.new.source in
-    (head ++ rest.0, takes_more head rest.0 _ _ _ first rest.1, rw (p.1, p.2) (stops_here s head rest.0 c.in_err-whole-in_default.field-0.0 left size rest.2.0 rest.2.1 (λ failed order here other. fits_by s c.in_ok-order.order order head 12 (lit≤ tt) (c.ok_or.ensures.ok_part ∙ ap result_ok c.in_ok-order.was) here (c.in_err-whole-in_default.ensures.sound (cc failed)))))
-
-pub returns-in_ok-whole-in-1-clause-octets : goal.returns-in_ok-whole-in-1-clause-octets
-returns-in_ok-whole-in-1-clause-octets g c =
-    let s = standing_of c.args.position.now in
-    let took = c.in-Whole.ensures.octets in
-    let head = c.fill.new.buf in
-    let size : length head ≡ 8 = omega (arith, c.fill.auto.buf) in
-    let first = takes_whole _ _ took.0 head took.1 took.2 in
-    let rest = c.in_ok-whole-in-1.ensures.octets in
-    (head ++ rest.0, takes_more head rest.0 _ _ _ first rest.1, rest.2 c.args.buf.now)
-
-pub returns-in_ok-whole-in-6-clause-octets : goal.returns-in_ok-whole-in-6-clause-octets
-returns-in_ok-whole-in-6-clause-octets g c =
-    let s = standing_of c.args.position.now in
-    let took = c.in-Whole.ensures.octets in
-    let head = c.fill.new.buf in
-    let size : length head ≡ 8 = omega (arith, c.fill.auto.buf) in
-    let first = takes_whole _ _ took.0 head took.1 took.2 in
-    let rest = c.in_ok-whole-in-6.ensures.octets in
+    let rest = c.in_ok-read_within.ensures.octets in
     (head ++ rest.0, takes_more head rest.0 _ _ _ first rest.1, rest.2)
-
-pub returns-in_ok-whole-in_default-clause-octets : goal.returns-in_ok-whole-in_default-clause-octets
-returns-in_ok-whole-in_default-clause-octets g c =
-    let s = standing_of c.args.position.now in
-    let took = c.in-Whole.ensures.octets in
-    let head = c.fill.new.buf in
-    let size : length head ≡ 8 = omega (arith, c.fill.auto.buf) in
-    let first = takes_whole _ _ took.0 head took.1 took.2 in
-    let rest = c.in_ok-whole-in_default.ensures.octets in
-    (head ++ rest.0, takes_more head rest.0 _ _ _ first rest.1, rest.2 c.read_other.new.buf)

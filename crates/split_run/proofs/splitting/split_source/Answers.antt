@@ -1,4 +1,4 @@
-use Rattle.std.proofs.Common.{◌+◌, ◌++◌, length, take, drop, refl, sym, subst, arith}
+use Rattle.std.proofs.Common.{◌++◌, length, take, drop, refl, sym, subst, arith}
 use Rattle.pcap_split.specs.declared.counts.Counts.{Counts}
 use Rattle.split_run.specs.declared.outcome.Outcome.TheVariants as outcome
 use Rattle.split_run.specs.Names.{name_in}

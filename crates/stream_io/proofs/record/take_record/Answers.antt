@@ -33,6 +33,7 @@ returns-in-Short-take_body-clause-octets g c =
           rest.2.1,
         ),
         few_taken c.args.ahead.now took.0 front c.fill.new.self rest.0 c.from_be_bytes-len.result (length c.take_body.new.ahead) size took.2 rest.2.0 (omega arith),
+        λ some. absurd (some rest.2.1),
       ),
     )
 

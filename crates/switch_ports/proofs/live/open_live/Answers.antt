@@ -1,5 +1,5 @@
 use Rattle.std.proofs.Common.{ℕ, arith, subst}
-use Rattle.savi_ends.specs.Faults.{RoseOnce}
+use Rattle.savi_ends.specs.Faults.{Rose}
 use Rattle.switch_ports.proofs.LiveOpens.{live_ready, live_open_step, live_fails_next, live_opened_still}
 use Rattle.switch_ports.proofs.live.open_live.Goals as goal
 
@@ -17,7 +17,7 @@ returns-in-Err-clause-opened g c =
     c.requires.rising c.loop-plan-test.true c.plan-item.is c.loop-plan.invariant.opens c.port.ensures.others
 
 pub returns-in-Err-clause-once : goal.returns-in-Err-clause-once
-returns-in-Err-clause-once g c = subst (λ (n : ℕ). RoseOnce n (g.W.World.book c.port.new.self).faults) c.loop-plan.invariant.opens.still c.in-Err.ensures.opens.once
+returns-in-Err-clause-once g c = subst (λ (n : ℕ). Rose n (g.W.World.book c.port.new.self).faults) c.loop-plan.invariant.opens.still c.in-Err.ensures.opens.once
 
 pub loop-plan-preserved : goal.loop-plan-preserved
 loop-plan-preserved g c = record {

@@ -1,5 +1,5 @@
 use Rattle.std.proofs.Common.{◌∙◌, ℕ, arith, subst}
-use Rattle.savi_ends.specs.Faults.{RoseOnce}
+use Rattle.savi_ends.specs.Faults.{Rose}
 use Rattle.switch_ports.proofs.Opens.{next_ready, open_step, fails_next}
 use Rattle.switch_ports.proofs.opening.open_all.Goals as goal
 
@@ -12,7 +12,7 @@ returns-in-Err-clause-failed g c =
     fails_next c.args.plans.now c.loop-plan.plan-index c.plan-item.result c.loop-plan.held.items c.loop-plan-test.true c.plan-item.is c.loop-plan.invariant.opens.ports
 
 pub returns-in-Err-clause-once : goal.returns-in-Err-clause-once
-returns-in-Err-clause-once g c = subst (λ (n : ℕ). RoseOnce n (g.W.World.book c.port.new.self).faults) c.loop-plan.invariant.opens.still c.in-Err.ensures.opens.once
+returns-in-Err-clause-once g c = subst (λ (n : ℕ). Rose n (g.W.World.book c.port.new.self).faults) c.loop-plan.invariant.opens.still c.in-Err.ensures.opens.once
 
 pub loop-plan-preserved : goal.loop-plan-preserved
 loop-plan-preserved g c = record {

@@ -1,4 +1,4 @@
-use Rattle.std.proofs.Common.{◌∙◌, ℕ, List, ap, arith}
+use Rattle.std.proofs.Common.{◌∙◌, ℕ, List, refl, ap}
 use Rattle.std.proofs.lemmas.List.{take_all}
 use Rattle.savi_ends.specs.Octets.{behind}
 use Rattle.savi_history.specs.EndLines.{told_lines}
@@ -7,7 +7,7 @@ use Rattle.switch_report.proofs.told_ends.tell_each.Goals as goal
 
 pub loop-told-preserved : goal.loop-told-preserved
 loop-told-preserved g c = record {
-  later = omega (arith, c.loop-told.invariant.later, c.in-Done.ensures.later);
+  still = c.in-Done.ensures.still refl ∙ c.loop-told.invariant.still;
   wrote = told_next c.args.ends.now c.loop-told.told-index c.told-item.result (g.K.Sink.written c.args.sink.now) (g.K.Sink.written c.loop-told.sink) (g.K.Sink.written c.tell_end.new.sink)
       c.loop-told-test.true c.told-item.is c.loop-told.invariant.wrote c.in-Done.ensures.extends;
 }

@@ -5,7 +5,7 @@ use Rattle.savi_kinds.specs.Ports.{number_of}
 use Rattle.savi_kinds.specs.ValidPlan.{numbers_of}
 use Rattle.savi_ends.specs.declared.world.Std.{Std}
 use Rattle.savi_ends.specs.declared.world.Ends.{Ends}
-use Rattle.savi_ends.specs.Faults.{RoseOnce}
+use Rattle.savi_ends.specs.Faults.{Rose}
 use Rattle.savi_ends.specs.Places.{Book, Place, PortKey, ControlKey, BothFresh}
 use Rattle.switch_ports.specs.Named.{named_by}
 use Rattle.switch_ports.specs.Live.{AreOpened, IsNextOf, OthersSame}
@@ -158,7 +158,7 @@ returns-in-Err-clause-open g c = λ seven.
     let K = g.row.W-K.Denot in
     let C = g.row.W-C.Denot in
     let faults : Book S K C → ℕ = λ b. b.faults in
-    subst (λ (n : ℕ). RoseOnce n (g.W.World.book c.keep_live-in-Err.new.world).faults) c.in_default-open_live.ensures.still (ap faults c.keep_live-in-Err.ensures.rest ∙ c.in-Err.ensures.once)
+    subst (λ (n : ℕ). Rose n (g.W.World.book c.keep_live-in-Err.new.world).faults) c.in_default-open_live.ensures.still (ap faults c.keep_live-in-Err.ensures.rest ∙ c.in-Err.ensures.once)
 
 pub returns-in-Err-clause-unopened : goal.returns-in-Err-clause-unopened
 returns-in-Err-clause-unopened g c = λ seven.
@@ -275,7 +275,7 @@ returns-in-Err-output-clause-open g c = λ seven.
     let K = g.row.W-K.Denot in
     let C = g.row.W-C.Denot in
     let faults : Book S K C → ℕ = λ b. b.faults in
-    subst (λ (n : ℕ). RoseOnce n (g.W.World.book c.keep_live_control.new.world).faults) (c.in-Ok-open_live_control.ensures.still ∙ c.in_default-open_live.ensures.still)
+    subst (λ (n : ℕ). Rose n (g.W.World.book c.keep_live_control.new.world).faults) (c.in-Ok-open_live_control.ensures.still ∙ c.in_default-open_live.ensures.still)
     (ap faults c.keep_live_control.ensures.rest ∙ ap faults c.keep_live-in-Err-output.ensures.rest ∙ c.in-Err-output.ensures.opens.once)
 
 pub returns-in-Err-output-clause-unopened : goal.returns-in-Err-output-clause-unopened

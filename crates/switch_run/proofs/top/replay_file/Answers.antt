@@ -1,7 +1,7 @@
 use Rattle.std.proofs.Common.{◌≡◌, ◌≢◌, ℕ, Result, Err, true, false, ap, arith, sym, subst, ◌∙◌, inr, refl}
 use Rattle.savi_kinds.specs.declared.plan.Plan.{Plan}
 use Rattle.savi_ends.specs.declared.world.Std.TheVariants.{Out}
-use Rattle.savi_ends.specs.Faults.{RoseOnce}
+use Rattle.savi_ends.specs.Faults.{Rose}
 use Rattle.savi_ends.specs.Places.{Book, Place}
 use Rattle.run_config.specs.declared.refusal.Refusal.{Refusal}
 use Rattle.run_config.specs.declared.refusal.Refusal.TheVariants as refusals
@@ -47,7 +47,7 @@ returns-in-Ok-clause-ran g c =
         ends = configured_unplayed true g.W.S.Source.left g.W.K.Sink.written c.in-Ok.plan _ _ _ c.args.file.now c.in-Ok.ensures.rest c.in-Ok.ensures.configured (c.replay_plan.ensures.unplayed one);
       };
       config = λ three. absurd (c.replay_plan.ensures.config three);
-      opening = λ seven. subst (λ (n : ℕ). RoseOnce n (g.W.World.book c.replay_plan.new.world).faults) (c.in-Ok.ensures.still_world (λ e. cc)) (c.replay_plan.ensures.«open» seven);
+      opening = λ seven. subst (λ (n : ℕ). Rose n (g.W.World.book c.replay_plan.new.world).faults) (c.in-Ok.ensures.still_world (λ e. cc)) (c.replay_plan.ensures.«open» seven);
       still = λ other. c.replay_plan.ensures.still other ∙ c.in-Ok.ensures.still_world (λ e. cc);
       unopened = λ seven. inr (record {
         plan = c.in-Ok.plan;

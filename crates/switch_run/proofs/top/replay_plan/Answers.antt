@@ -2,7 +2,7 @@ use Rattle.std.proofs.Common.{◌≡◌, ℕ, false, List, Option, Some, None, I
 use Rattle.savi_kinds.specs.declared.plan.PortPlan.{PortPlan}
 use Rattle.savi_ends.specs.declared.world.Std.{Std}
 use Rattle.savi_ends.specs.declared.world.Ends.{Ends}
-use Rattle.savi_ends.specs.Faults.{RoseOnce}
+use Rattle.savi_ends.specs.Faults.{Rose}
 use Rattle.savi_ends.specs.Places.{Book, Place, PortKey, ControlKey, BothFresh}
 use Rattle.switch_ports.specs.Openings.{IsOff}
 use Rattle.port_worker.specs.declared.port_ends.PortEnds.{PortEnds}
@@ -83,7 +83,7 @@ returns-in-Err-clause-open g c = λ seven.
     let K = g.row.W-K.Denot in
     let C = g.row.W-C.Denot in
     let faults : Book S K C → ℕ = λ b. b.faults in
-    subst (λ (n : ℕ). RoseOnce n (g.W.World.book c.keep_all-in-Err.new.world).faults) c.in_default-open_all.ensures.still (ap faults c.keep_all-in-Err.ensures.rest ∙ c.in-Err.ensures.once)
+    subst (λ (n : ℕ). Rose n (g.W.World.book c.keep_all-in-Err.new.world).faults) c.in_default-open_all.ensures.still (ap faults c.keep_all-in-Err.ensures.rest ∙ c.in-Err.ensures.once)
 
 pub returns-in-Err-clause-unopened : goal.returns-in-Err-clause-unopened
 returns-in-Err-clause-unopened g c = λ seven.
@@ -175,7 +175,7 @@ returns-in-Err-output-clause-open g c = λ seven.
     let K = g.row.W-K.Denot in
     let C = g.row.W-C.Denot in
     let faults : Book S K C → ℕ = λ b. b.faults in
-    subst (λ (n : ℕ). RoseOnce n (g.W.World.book c.keep_control.new.world).faults) (c.in-Ok.ensures.still ∙ c.in_default-open_all.ensures.still)
+    subst (λ (n : ℕ). Rose n (g.W.World.book c.keep_control.new.world).faults) (c.in-Ok.ensures.still ∙ c.in_default-open_all.ensures.still)
     (ap faults c.keep_control.ensures.rest ∙ ap faults c.keep_all-in-Err-output.ensures.rest ∙ c.in-Err-output.ensures.opens.once)
 
 pub returns-in-Err-output-clause-unopened : goal.returns-in-Err-output-clause-unopened

@@ -1,5 +1,6 @@
 use Rattle.std.proofs.Common.{◌≡◌, ◌≤◌, inl, inr, ◌+◌, ℕ, List, [], ◌++◌, length, Option, Some, None, IfSome, refl, sym, ap, subst, ◌∙◌, arith}
 use Rattle.savi_kinds.specs.declared.entry.How.TheVariants as how
+use Rattle.savi_ends.proofs.FaultCounts.{rose_since}
 use Rattle.savi_ends.proofs.Octets.{takes_more}
 use Rattle.pcap_io.proofs.CallsJoined.{takes_none}
 use Rattle.pcapng_io.specs.declared.next.NgNext.{NgNext}
@@ -13,7 +14,7 @@ use Rattle.pcap_split.specs.Counts.{interfaces_of, tally_of, counted}
 use Rattle.pcap_split.specs.Going.{HasBegun, Tells, split_behind, last_got}
 use Rattle.pcap_split.specs.States.{Splitting}
 use Rattle.pcap_split.specs.Steps.{Does}
-use Rattle.pcap_split.proofs.Goings.{SoFar, TellsEvent, none_yet, differ_still, rose_since, counted_within, may_take, place_within, goes_on, stops_at, rose_at, failed_by, failed_back, splitting, if_any, if_more, idle_again}
+use Rattle.pcap_split.proofs.Goings.{SoFar, TellsEvent, none_yet, differ_still, counted_within, may_take, place_within, goes_on, stops_at, rose_at, failed_by, failed_back, splitting, if_any, if_more, idle_again}
 use Rattle.pcap_split.proofs.splitter.Splitter.go_on.Goals as goal
 
 pub loop-got-init : goal.loop-got-init
@@ -169,7 +170,7 @@ returns-in-Some-clause-cause g c =
     let answer = c.next-answer.result in
     let does : Does W F answer buf counts c.take_answer.new.counts c.loop-got.outputs c.take_answer.new.outputs (Some c.in-Some.got) =
     subst (λ (r : Option SplitGot). Does W F answer buf counts c.take_answer.new.counts c.loop-got.outputs c.take_answer.new.outputs r) c.in-Some.is c.take_answer.ensures in
-    λ is first_time. rose_since (g.S.Source.faults c.args.source.now) (g.S.Source.faults c.loop-got.source) (g.S.Source.faults c.next-answer.new.source) (omega (arith, was.still)) (c.next-answer.ensures.cause (failed_by W F answer buf counts c.take_answer.new.counts c.loop-got.outputs c.take_answer.new.outputs c.in-Some.got does is) (λ failed. first_time (ap (λ (v : Splitting). v.reading) (sym c.self.view_is) ∙ was.failed failed)))
+    λ is first_time. rose_since (g.S.Source.faults c.args.source.now) (g.S.Source.faults c.loop-got.source) (g.S.Source.faults c.next-answer.new.source) was.still (c.next-answer.ensures.cause (failed_by W F answer buf counts c.take_answer.new.counts c.loop-got.outputs c.take_answer.new.outputs c.in-Some.got does is) (λ failed. first_time (ap (λ (v : Splitting). v.reading) (sym c.self.view_is) ∙ was.failed failed)))
 
 pub returns-in-Some-clause-still : goal.returns-in-Some-clause-still
 returns-in-Some-clause-still g c =

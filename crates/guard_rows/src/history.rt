@@ -1,7 +1,7 @@
 //! Arrivals at the ports of a plan, and what is written of them.
 
 use crate::frames::{Frames, arrival_of};
-use crate::plans::plan_of;
+use crate::plans::learn_plan;
 use anyhow::bail;
 use ra_learn::{Coming, Learner, Report, WINDOW_MOST_MS, learn};
 use savi_ends::{MemSink, Put};
@@ -29,7 +29,7 @@ impl History {
     pub fn new(alloc: Global, text: &str) -> anyhow::Result<History> {
         let (window, prefix) = text.split_once(' ').unwrap_or((text, ""));
         let window = window.parse::<u64>()?;
-        Ok(History::at_start(alloc, plan_of(alloc, prefix)?, window)?)
+        Ok(History::at_start(alloc, learn_plan(alloc, prefix)?, window)?)
     }
 
     // Nothing has come yet at the ports of this plan.

@@ -1,7 +1,7 @@
 use Rattle.frame_class.specs.declared.classes.Seen.{Seen}
 use Rattle.frame_class.specs.Seen.{IsSeen}
 use Rattle.frame_class.proofs.OneClass.{one_seen}
-use Rattle.frame_class.proofs.reader.seen.Goals as goal
+use Rattle.frame_class.proofs.reader.see.Goals as goal
 
 pub returns-clause-reading : goal.returns-clause-reading
 returns-clause-reading c = record { tag = c.tag_if_whole-tag.ensures; class = c.put_inner_class.ensures }

@@ -1,6 +1,6 @@
-//! What a reader of a capture answers.
+//! What a reader of captures of several interfaces answers.
 
-use crate::files::number_of;
+use crate::input::number_of;
 use pcapng_io::{NgNext, NgReader};
 use savi_ends::MemSource;
 use std::alloc::Global;
@@ -8,17 +8,17 @@ use std::alloc::Global;
 /// How many answers are printed.
 const ANSWERS: u32 = 4;
 
-/// Prints the first answers to a reader of these octets, on a line: how many a read gives at most, and which read fails.
-pub fn print_answers(
+/// Prints the first answers to a reader of these octets: how many a read gives at most, and which read fails.
+pub fn print_blocks(
     rt: &impl Print,
     alloc: Global,
-    octets: Vec<u8>,
+    octets: &[u8],
     rest: &str,
 ) -> anyhow::Result<()> {
     let (most, rest) = number_of(rest)?;
     let (read, _) = number_of(rest)?;
     let fails = [read].to_vec(alloc)?;
-    let mut source = MemSource::new(octets, most.max(1) as usize, fails);
+    let mut source = MemSource::new(octets.to_vec(alloc)?, most.max(1) as usize, fails);
     let mut reader = NgReader::new();
     let mut buf = [0; 1518];
     for _ in 0..ANSWERS {

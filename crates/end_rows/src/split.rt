@@ -1,11 +1,11 @@
-//! A capture that is split by library, step by step.
+//! A capture of several interfaces that is split, step by step.
 
-use crate::files::number_of;
-use crate::split::{print_counts, print_octets};
+use crate::input::number_of;
 use anyhow::bail;
 use pcap_io::begin;
 use pcap_split::{Output, SplitGot, Splitter};
 use savi_ends::{MemSink, MemSource, Put};
+use split_run::put_counts;
 use std::alloc::Global;
 
 /// Room for what an output takes: a header, and a frame of 54 octets.
@@ -13,14 +13,15 @@ const ROOM: usize = 94;
 
 /// Splits these octets, of which a read gives at most so many, up to the first interface that opens, and then with an output
 /// for it; prints both answers, what was counted, and what the output took.
-pub fn print_steps(
+pub fn print_split(
     rt: &impl Print,
     alloc: Global,
-    octets: Vec<u8>,
+    octets: &[u8],
     most: &str,
 ) -> anyhow::Result<()> {
     let (most, _) = number_of(most)?;
-    let mut source = MemSource::new(octets, most.max(1) as usize, Vec::new(alloc));
+    println!(rt; "")?;
+    let mut source = MemSource::new(octets.to_vec(alloc)?, most.max(1) as usize, Vec::new(alloc));
     let mut splitter = Splitter::new();
     let mut none: [Output<MemSink>; 0] = [];
     let first = splitter.go_on(&mut source, &mut none);
@@ -34,8 +35,13 @@ pub fn print_steps(
     }
     let mut outputs = [Output { interface, sink }];
     print_got(rt, splitter.go_on(&mut source, &mut outputs))?;
-    print_counts(rt, splitter.counts())?;
-    print_octets(rt, alloc, outputs[0].sink.written())
+    let counts = put_counts(splitter.counts());
+    print!(rt; "  {}", str::from_utf8(counts.as_slice())?)?;
+    println!(rt;
+        "  octets [{}]",
+        hex::encode(alloc, outputs[0].sink.written())?
+    )?;
+    Ok(())
 }
 
 // Prints an answer of a splitter.
