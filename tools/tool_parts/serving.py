@@ -64,6 +64,11 @@ def plain(number, port=1):
     return making.frame(0x0200000000AA, MACS[port], 0x88B5, number.to_bytes(46))
 
 
+def records(*frames):
+    """Frames as a stream has them."""
+    return b"".join(len(frame).to_bytes(4) + frame for frame in frames)
+
+
 def joined(path):
     """A connection to a path, which may be there a moment before somebody listens at it."""
     deadline = time.monotonic() + SECONDS
@@ -106,7 +111,7 @@ class Peer:
         return got
 
     def send(self, *frames):
-        self.write(b"".join(len(frame).to_bytes(4) + frame for frame in frames))
+        self.write(records(*frames))
 
     def take(self):
         """The next frame, or None at the end."""
